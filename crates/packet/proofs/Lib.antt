@@ -1,0 +1,4 @@
+pub mod Heads
+pub mod Data
+pub mod Writes
+pub mod Trips

@@ -2,6 +2,7 @@ ghost use mathlib.Core.Path.{_≡_};
 ghost use mathlib.Core.List.{_++_};
 ghost use Rattle.std.specs.Vec.{made};
 ghost use Rattle.packet.specs.Data.{answersWithData, asksWithData, dataBytes, seenData, splitData};
+use crate::form::END_CODE;
 use codes::Code;
 use codes::Coded;
 use codes::Command;
@@ -39,7 +40,7 @@ pub(crate) fn split_data(carries: bool, size: u32, rest: &[u8]) -> Result<(&[u8]
         return Ok((&[], rest));
     }
     let size = size as usize;
-    if rest.len() <= size || rest[size] != 0x0A {
+    if rest.len() <= size || rest[size] != END_CODE {
         return Err(Refusal::DataLength);
     }
     Ok((&rest[0..size], &rest[size + 1..]))

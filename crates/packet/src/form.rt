@@ -1,6 +1,15 @@
 use codes::Coded;
 use codes::Command;
 
+/// The first byte of a standard packet.
+pub(crate) const STANDARD_START: u8 = 0x40;
+
+/// The first byte of a network packet.
+pub(crate) const NETWORK_START: u8 = 0x41;
+
+/// The last byte of a packet, and of the data behind one.
+pub(crate) const END_CODE: u8 = 0x0A;
+
 /// The two forms of a packet.
 #[derive(Clone, Copy, PartialEq, Eq, Debug)]
 pub enum Form {

@@ -7,8 +7,11 @@ ghost use Rattle.codes.specs.declared.network.NetworkMode.the-variants.{Single,
 ghost use Rattle.packet.specs.Heads.{flaw, headBytes, readHead, seenHead};
 ghost use Rattle.packet.specs.Numbers.{bytes16, bytes32};
 use crate::checksum::checksum;
+use crate::form::END_CODE;
 use crate::form::Form;
 use crate::form::Head;
+use crate::form::NETWORK_START;
+use crate::form::STANDARD_START;
 use codes::Coded;
 use codes::CommandNumbered;
 use codes::Refusal;
@@ -70,7 +73,7 @@ pub(crate) fn standard_head(frame: &[u8]) -> Result<(Head, &[u8]), Refusal>
         return Err(Refusal::TooShort);
     };
     let right_sum = *sum == checksum(&frame[0..11]);
-    if let Some(refusal) = first_flaw(*start == 0x40, *end == 0x0A, right_sum) {
+    if let Some(refusal) = first_flaw(*start == STANDARD_START, *end == END_CODE, right_sum) {
         return Err(refusal);
     }
     let head = Head {
@@ -110,7 +113,7 @@ pub(crate) fn network_head(frame: &[u8]) -> Result<(Head, &[u8]), Refusal>
         return Err(Refusal::TooShort);
     };
     let right_sum = *sum == checksum(&frame[0..13]);
-    if let Some(refusal) = first_flaw(*start == 0x41, *end == 0x0A, right_sum) {
+    if let Some(refusal) = first_flaw(*start == NETWORK_START, *end == END_CODE, right_sum) {
         return Err(refusal);
     }
     let head = Head {

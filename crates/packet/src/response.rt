@@ -11,6 +11,7 @@ use crate::behind::answers_with_data;
 use crate::behind::split_data;
 use crate::form::Form;
 use crate::form::Head;
+use crate::form::NETWORK_START;
 use crate::head::network_head;
 use crate::head::standard_head;
 use crate::write::packet_length;
@@ -66,7 +67,7 @@ fn either_head(bytes: &[u8]) -> Result<(Head, &[u8]), Refusal>
 {
     match bytes {
         [] => Err(Refusal::TooShort),
-        [0x41, ..] => network_head(bytes),
+        [NETWORK_START, ..] => network_head(bytes),
         [_, ..] => standard_head(bytes),
     }
 }

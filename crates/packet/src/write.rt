@@ -6,8 +6,11 @@ ghost use Rattle.packet.specs.Heads.{headBytes, headLength};
 ghost use Rattle.packet.specs.Packets.{packetBytes};
 ghost use Rattle.packet.specs.declared.form.Form.the-variants.{Standard, Network};
 use crate::checksum::checksum;
+use crate::form::END_CODE;
 use crate::form::Form;
 use crate::form::Head;
+use crate::form::NETWORK_START;
+use crate::form::STANDARD_START;
 use codes::CommandNumbered;
 
 /// The 13 bytes of a standard packet with these fields.
@@ -18,9 +21,8 @@ fn standard_bytes(head: Head) -> [u8; 13]
     let [p0, p1, p2, p3] = head.param.to_le_bytes();
     let [s0, s1, s2, s3] = head.size.to_le_bytes();
     let flag = head.flag;
-    let sum = checksum(&[0x40, command, p0, p1, p2, p3, s0, s1, s2, s3, flag]);
-    [
-        0x40,
+    let mut bytes = [
+        STANDARD_START,
         command,
         p0,
         p1,
@@ -31,9 +33,11 @@ fn standard_bytes(head: Head) -> [u8; 13]
         s2,
         s3,
         flag,
-        sum,
-        0x0A,
-    ]
+        0,
+        END_CODE,
+    ];
+    bytes[11] = checksum(&bytes[0..11]);
+    bytes
 }
 
 /// The 15 bytes of a network packet with these fields.
@@ -45,9 +49,8 @@ fn network_bytes(terminal: u16, head: Head) -> [u8; 15]
     let [p0, p1, p2, p3] = head.param.to_le_bytes();
     let [s0, s1, s2, s3] = head.size.to_le_bytes();
     let flag = head.flag;
-    let sum = checksum(&[0x41, t0, t1, command, p0, p1, p2, p3, s0, s1, s2, s3, flag]);
-    [
-        0x41,
+    let mut bytes = [
+        NETWORK_START,
         t0,
         t1,
         command,
@@ -60,9 +63,11 @@ fn network_bytes(terminal: u16, head: Head) -> [u8; 15]
         s2,
         s3,
         flag,
-        sum,
-        0x0A,
-    ]
+        0,
+        END_CODE,
+    ];
+    bytes[13] = checksum(&bytes[0..13]);
+    bytes
 }
 
 /// Writes a packet without data at the front of `out`, and says how long it is.
@@ -91,7 +96,7 @@ pub(crate) fn write_data(out: &mut [u8], data: &[u8]) -> usize
 {
     let n = data.len();
     out[0..n].copy_from_slice(data);
-    out[n] = 0x0A;
+    out[n] = END_CODE;
     n + 1
 }
 

@@ -3,6 +3,9 @@ use mathlib.Core.List.{List, [], _∷_}
 use mathlib.Core.Path.{_≡_}
 use Prim.Native.Nat.{ℕ}
 use lib.Dec.{ltb}
+use Rattle.codes.specs.Numbers.{caseOf}
+use Rattle.std.specs.Options.{mapped}
+use Rattle.std.specs.declared.option.Option.{Option}
 use Rattle.std.specs.shelf.Lists.{countBy}
 use Rattle.matcher.specs.declared.level.SecurityLevel.{SecurityLevel}
 use Rattle.matcher.specs.declared.level.SecurityLevel.the-variants.{OneIn10, OneIn100, OneIn1k, OneIn10k, OneIn100k, OneIn1M, OneIn10M, OneIn100M, ThreeIn100, ThreeIn1k, ThreeIn10k, ThreeIn100k, ThreeIn1M, ThreeIn10M, ThreeIn100M}
@@ -49,6 +52,10 @@ rate ThreeIn100M = 3
 -- the levels are numbered by falling rate, from 0: as many as there are levels with a greater rate
 abbrev pub strictnessOf : SecurityLevel → ℕ
 strictnessOf l = countBy (λ m. ltb (rate l) (rate m)) levels
+
+-- the strictness of the level that has a number
+abbrev pub strictnessAt : ℕ → Option ℕ
+strictnessAt n = mapped strictnessOf (caseOf levelNumber levels n)
 
 -- the stricter of two levels is the one with the lower rate
 abbrev pub Stricter-is-rarer : Type 0

@@ -1,7 +1,7 @@
 ghost use mathlib.Core.Path.{_≡_};
 ghost use Prim.Native.Nat.{_≤_};
-ghost use Rattle.matcher.specs.Levels.{Stricter-is-rarer, levelNumber, levels, strictnessOf};
-ghost use Rattle.matcher.specs.declared.level.SecurityLevel.the-variants.{OneIn10, OneIn100, OneIn100M, ThreeIn100, ThreeIn100M};
+ghost use Rattle.matcher.specs.Levels.{Stricter-is-rarer, levelNumber, levels, strictnessAt, strictnessOf};
+ghost use Rattle.std.specs.declared.option.Option.the-variants.{Some};
 use crate::strictness::Strictness;
 use codes::Numbered;
 
@@ -107,6 +107,5 @@ impl SecurityLevel {
 /// The order of the levels, and the strictness of five of them.
 pub fn level_order()
     ensures order { λ _. ⌜ Stricter-is-rarer ⌝ }
-    ensures marked { λ _. ⌜ (strictnessOf OneIn10 ≡ 0) × (strictnessOf ThreeIn100 ≡ 1) × (strictnessOf OneIn100 ≡ 2) × (strictnessOf ThreeIn100M ≡ 13) × (strictnessOf OneIn100M ≡ 14) ⌝ }
-{
-}
+    ensures marked { λ _. ⌜ (strictnessAt 0x30 ≡ Some 0) × (strictnessAt 0x40 ≡ Some 1) × (strictnessAt 0x31 ≡ Some 2) × (strictnessAt 0x46 ≡ Some 13) × (strictnessAt 0x37 ≡ Some 14) ⌝ }
+{}

@@ -2,6 +2,7 @@ ghost use mathlib.Core.Path.{_≡_};
 ghost use Prim.Native.Nat.{ℕ, _≤_};
 ghost use lib.ListN.{length, take};
 ghost use Rattle.search.specs.Ids.{countOf, isAt, lowestFree, placeOf};
+ghost use Rattle.search.specs.Laws.{IsLowestFree};
 use memory::Memory;
 
 /// Whether there is a template at the place, and it has the ID.
@@ -37,7 +38,8 @@ pub fn count_of<S: Memory>(memory: &S, id: u16) -> u32
 
 /// The lowest ID without any template.
 pub fn lowest_free_id<S: Memory>(memory: &S) -> u16
-    ensures { λ r. ⌜ r ≡ lowestFree (S·Memory .held (now (memory .entry))) ⌝ }
+    ensures value { λ r. ⌜ r ≡ lowestFree (S·Memory .held (now (memory .entry))) ⌝ }
+    ensures lowest { λ r. ⌜ IsLowestFree (S·Memory .held (now (memory .entry))) r ⌝ }
 {
     let mut id: u16 = 1;
     while usize::from(id) <= memory.count() {

@@ -4,6 +4,7 @@ ghost use Prim.Native.Nat.{ℕ, _<_, _≤_};
 ghost use lib.Dec.{leb};
 ghost use lib.ListN.{length};
 ghost use Rattle.memory.specs.Held.{heldAt};
+ghost use Rattle.search.specs.Laws.{FindsOldest};
 ghost use Rattle.search.specs.Oldest.{anyOf, idIf, oldest, passes};
 ghost use Rattle.std.specs.declared.option.Option.the-variants.{None};
 use crate::allowed::Allowed;
@@ -50,7 +51,8 @@ pub fn search_oldest<M: Matcher, S: Memory, A: Allowed>(
     strictness: Strictness,
     work: &mut [u8],
 ) -> Option<(u16, u32)>
-    ensures { λ r. ⌜ r ≡ cond (leb (S·Memory .size) (length (now (work .entry)))) (oldest (passes (A·Allowed .allowed (now (allowed .entry))) (λ t. M·Matcher .yes (now (matcher .entry)) t (now (scan .entry)) (strictness .value))) (S·Memory .held (now (memory .entry)))) None ⌝ }
+    ensures value { λ r. ⌜ r ≡ cond (leb (S·Memory .size) (length (now (work .entry)))) (oldest (passes (A·Allowed .allowed (now (allowed .entry))) (λ t. M·Matcher .yes (now (matcher .entry)) t (now (scan .entry)) (strictness .value))) (S·Memory .held (now (memory .entry)))) None ⌝ }
+    ensures finds { λ r. ⌜ (S·Memory .size ≤ length (now (work .entry)) → FindsOldest (passes (A·Allowed .allowed (now (allowed .entry))) (λ t. M·Matcher .yes (now (matcher .entry)) t (now (scan .entry)) (strictness .value))) (S·Memory .held (now (memory .entry))) r) ⌝ }
 {
     if work.len() < S::template_size() {
         return None;

@@ -22,13 +22,13 @@ loop-place-again g c =
     let inside : i < length h = omega arith in
     elim (c .if-is-at .came) [
       | then-is-at·else-left-eq0 w ↦
-        ap (λ n. placeFrom (i + 1) (c .args .id) n (drop (i + 1) h)) (w .left-is)
-        ∙ place-later h i inside (c .args .id) (c .loop-place .left) (sym (c .is-at .ensures) ∙ w .if-is-at .taken) (w .if-left-eq0 .left)
-        ∙ c .loop-place .inv
+          ap (λ n. placeFrom (i + 1) (c .args .id) n (drop (i + 1) h)) (w .left-is)
+          ∙ place-later h i inside (c .args .id) (c .loop-place .left) (sym (c .is-at .ensures) ∙ w .if-is-at .taken) (w .if-left-eq0 .left)
+          ∙ c .loop-place .inv
       | else-is-at w ↦
-        ap (λ n. placeFrom (i + 1) (c .args .id) n (drop (i + 1) h)) (w .left-is)
-        ∙ place-other h i inside (c .args .id) (c .loop-place .left) (sym (c .is-at .ensures) ∙ w .if-is-at .left)
-        ∙ c .loop-place .inv
+          ap (λ n. placeFrom (i + 1) (c .args .id) n (drop (i + 1) h)) (w .left-is)
+          ∙ place-other h i inside (c .args .id) (c .loop-place .left) (sym (c .is-at .ensures) ∙ w .if-is-at .left)
+          ∙ c .loop-place .inv
     ]
 
 pub returns : need.returns

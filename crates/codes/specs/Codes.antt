@@ -1,7 +1,25 @@
 use mathlib.Core.List.{List, [], _∷_}
 use Prim.Native.Nat.{ℕ}
 use Rattle.codes.specs.declared.code.Code.{Code}
-use Rattle.codes.specs.declared.code.Code.the-variants.{Success, ScanSuccess, ScanFail, NotFound, NotMatch, TryAgain, TimeOut, MemFull, ExistId, FingerLimit, Continue, Unsupported, InvalidId, Busy, Canceled, ExistFinger, Locked}
+use Rattle.codes.specs.declared.code.Code.the-variants.{
+  Success,
+  ScanSuccess,
+  ScanFail,
+  NotFound,
+  NotMatch,
+  TryAgain,
+  TimeOut,
+  MemFull,
+  ExistId,
+  FingerLimit,
+  Continue,
+  Unsupported,
+  InvalidId,
+  Busy,
+  Canceled,
+  ExistFinger,
+  Locked,
+}
 
 -- the number of each case
 abbrev pub codeNumber : Code → ℕ
@@ -24,4 +42,6 @@ codeNumber ExistFinger = 0x86
 codeNumber Locked = 0xA1
 
 abbrev pub allCodes : List Code
-allCodes = Success ∷ ScanSuccess ∷ ScanFail ∷ NotFound ∷ NotMatch ∷ TryAgain ∷ TimeOut ∷ MemFull ∷ ExistId ∷ FingerLimit ∷ Continue ∷ Unsupported ∷ InvalidId ∷ Busy ∷ Canceled ∷ ExistFinger ∷ Locked ∷ []
+allCodes =
+    Success ∷ ScanSuccess ∷ ScanFail ∷ NotFound ∷ NotMatch ∷ TryAgain ∷ TimeOut ∷ MemFull ∷ ExistId ∷ FingerLimit ∷
+    Continue ∷ Unsupported ∷ InvalidId ∷ Busy ∷ Canceled ∷ ExistFinger ∷ Locked ∷ []

@@ -2,7 +2,25 @@ use mathlib.Core.List.{List, [], _∷_}
 use Prim.Native.Nat.{ℕ}
 use lib.Chars.{codes}
 use Rattle.codes.specs.declared.command.Command.{Command}
-use Rattle.codes.specs.declared.command.Command.the-variants.{WriteParameter, ReadParameter, Enroll, EnrollTemplate, Verify, Identify, ReadTemplate, Delete, DeleteAll, ListTemplates, Cancel, WriteLevel, EnrollByAdministrator, DeleteByAdministrator, Unlock, Lock, ChangePassword}
+use Rattle.codes.specs.declared.command.Command.the-variants.{
+  WriteParameter,
+  ReadParameter,
+  Enroll,
+  EnrollTemplate,
+  Verify,
+  Identify,
+  ReadTemplate,
+  Delete,
+  DeleteAll,
+  ListTemplates,
+  Cancel,
+  WriteLevel,
+  EnrollByAdministrator,
+  DeleteByAdministrator,
+  Unlock,
+  Lock,
+  ChangePassword,
+}
 
 -- the number of each command
 abbrev pub commandNumber : Command → ℕ
@@ -25,7 +43,10 @@ commandNumber Lock = 0xB1
 commandNumber ChangePassword = 0xB2
 
 abbrev pub commands : List Command
-commands = WriteParameter ∷ ReadParameter ∷ Enroll ∷ EnrollTemplate ∷ Verify ∷ Identify ∷ ReadTemplate ∷ Delete ∷ DeleteAll ∷ ListTemplates ∷ Cancel ∷ WriteLevel ∷ EnrollByAdministrator ∷ DeleteByAdministrator ∷ Unlock ∷ Lock ∷ ChangePassword ∷ []
+commands =
+    WriteParameter ∷ ReadParameter ∷ Enroll ∷ EnrollTemplate ∷ Verify ∷ Identify ∷ ReadTemplate ∷ Delete ∷
+    DeleteAll ∷ ListTemplates ∷ Cancel ∷ WriteLevel ∷ EnrollByAdministrator ∷ DeleteByAdministrator ∷ Unlock ∷ Lock ∷
+    ChangePassword ∷ []
 
 -- what the protocol calls it
 abbrev pub commandName : Command → List ℕ

@@ -2,7 +2,17 @@ use mathlib.Core.List.{List, [], _∷_}
 use Prim.Native.Nat.{ℕ}
 use lib.Chars.{codes}
 use Rattle.codes.specs.declared.parameter.Parameter.{Parameter}
-use Rattle.codes.specs.declared.parameter.Parameter.the-variants.{Timeout, TemplateSize, EnrollMode, SecurityLevel, ModuleId, EnrolledFinger, AvailableFinger, SendScanSuccess, NetworkMode}
+use Rattle.codes.specs.declared.parameter.Parameter.the-variants.{
+  Timeout,
+  TemplateSize,
+  EnrollMode,
+  SecurityLevel,
+  ModuleId,
+  EnrolledFinger,
+  AvailableFinger,
+  SendScanSuccess,
+  NetworkMode,
+}
 
 -- the number of each case
 abbrev pub parameterNumber : Parameter → ℕ
@@ -17,7 +27,9 @@ parameterNumber SendScanSuccess = 0x75
 parameterNumber NetworkMode = 0x83
 
 abbrev pub parameters : List Parameter
-parameters = Timeout ∷ TemplateSize ∷ EnrollMode ∷ SecurityLevel ∷ ModuleId ∷ EnrolledFinger ∷ AvailableFinger ∷ SendScanSuccess ∷ NetworkMode ∷ []
+parameters =
+    Timeout ∷ TemplateSize ∷ EnrollMode ∷ SecurityLevel ∷ ModuleId ∷ EnrolledFinger ∷ AvailableFinger ∷
+    SendScanSuccess ∷ NetworkMode ∷ []
 
 -- what the protocol calls it
 abbrev pub parameterName : Parameter → List ℕ

@@ -2,7 +2,16 @@ use mathlib.Core.List.{List}
 use Prim.Native.Nat.{ℕ}
 use lib.Chars.{codes}
 use Rattle.codes.specs.declared.refusal.Refusal.{Refusal}
-use Rattle.codes.specs.declared.refusal.Refusal.the-variants.{AnswerBuffer, WorkBuffer, TooShort, StartCode, EndCode, Checksum, Terminal, DataLength}
+use Rattle.codes.specs.declared.refusal.Refusal.the-variants.{
+  AnswerBuffer,
+  WorkBuffer,
+  TooShort,
+  StartCode,
+  EndCode,
+  Checksum,
+  Terminal,
+  DataLength,
+}
 
 -- the number of each refusal: its place in the order of the tests
 abbrev pub refusalNumber : Refusal → ℕ

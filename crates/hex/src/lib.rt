@@ -53,7 +53,9 @@ fn byte_from(at: usize, high: u8, low: u8) -> Result<u8, Fault>
 
 /// The bytes of a text of digits, high digit first.
 pub fn read_hex(heap: Global, digits: &[u8]) -> Result<Vec<u8>, Fault>
-    ensures value { λ r. ⌜ Cases r (λ v. hexBytes (now (digits .entry)) ≡ Ok (vec-items v)) (λ e. Because e (hexBytes (now (digits .entry)))) ⌝ }
+    ensures value { λ r. ⌜ Cases r
+        (λ v. hexBytes (now (digits .entry)) ≡ Ok (vec-items v))
+        (λ e. Because e (hexBytes (now (digits .entry)))) ⌝ }
     ensures back { λ r. ⌜ made r (λ v. hexText (vec-items v) ≡ now (digits .entry)) ⌝ }
 {
     let Ok(mut bytes) = Vec::with_capacity(heap, digits.len() / 2) else {

@@ -8,7 +8,23 @@ use Rattle.std.specs.Options.{mapped}
 use Rattle.std.specs.declared.option.Option.{Option}
 use Rattle.std.specs.shelf.Lists.{countBy}
 use Rattle.matcher.specs.declared.level.SecurityLevel.{SecurityLevel}
-use Rattle.matcher.specs.declared.level.SecurityLevel.the-variants.{OneIn10, OneIn100, OneIn1k, OneIn10k, OneIn100k, OneIn1M, OneIn10M, OneIn100M, ThreeIn100, ThreeIn1k, ThreeIn10k, ThreeIn100k, ThreeIn1M, ThreeIn10M, ThreeIn100M}
+use Rattle.matcher.specs.declared.level.SecurityLevel.the-variants.{
+  OneIn10,
+  OneIn100,
+  OneIn1k,
+  OneIn10k,
+  OneIn100k,
+  OneIn1M,
+  OneIn10M,
+  OneIn100M,
+  ThreeIn100,
+  ThreeIn1k,
+  ThreeIn10k,
+  ThreeIn100k,
+  ThreeIn1M,
+  ThreeIn10M,
+  ThreeIn100M,
+}
 
 -- the number of each level
 abbrev pub levelNumber : SecurityLevel → ℕ
@@ -29,7 +45,9 @@ levelNumber ThreeIn10M = 0x45
 levelNumber ThreeIn100M = 0x46
 
 abbrev pub levels : List SecurityLevel
-levels = OneIn10 ∷ OneIn100 ∷ OneIn1k ∷ OneIn10k ∷ OneIn100k ∷ OneIn1M ∷ OneIn10M ∷ OneIn100M ∷ ThreeIn100 ∷ ThreeIn1k ∷ ThreeIn10k ∷ ThreeIn100k ∷ ThreeIn1M ∷ ThreeIn10M ∷ ThreeIn100M ∷ []
+levels =
+    OneIn10 ∷ OneIn100 ∷ OneIn1k ∷ OneIn10k ∷ OneIn100k ∷ OneIn1M ∷ OneIn10M ∷ OneIn100M ∷ ThreeIn100 ∷ ThreeIn1k ∷
+    ThreeIn10k ∷ ThreeIn100k ∷ ThreeIn1M ∷ ThreeIn10M ∷ ThreeIn100M ∷ []
 
 -- the false acceptance rate: how many of a hundred million strangers are taken for somebody
 abbrev pub rate : SecurityLevel → ℕ

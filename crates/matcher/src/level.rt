@@ -107,5 +107,6 @@ impl SecurityLevel {
 /// The order of the levels, and the strictness of five of them.
 pub fn level_order()
     ensures order { λ _. ⌜ Stricter-is-rarer ⌝ }
-    ensures marked { λ _. ⌜ (strictnessAt 0x30 ≡ Some 0) × (strictnessAt 0x40 ≡ Some 1) × (strictnessAt 0x31 ≡ Some 2) × (strictnessAt 0x46 ≡ Some 13) × (strictnessAt 0x37 ≡ Some 14) ⌝ }
+    ensures marked { λ _. ⌜ (strictnessAt 0x30 ≡ Some 0) × (strictnessAt 0x40 ≡ Some 1) × (strictnessAt 0x31 ≡ Some 2)
+        × (strictnessAt 0x46 ≡ Some 13) × (strictnessAt 0x37 ≡ Some 14) ⌝ }
 {}

@@ -61,8 +61,10 @@ pub trait Memory {
 
     /// Adds a template as the youngest.
     fn add(&mut self, id: u16, template: &[u8]) -> Result<(), NotAdded>
-        ensures value { λ r. ⌜ r ≡ addAnswer size (room (now (self .entry))) (held (now (self .entry))) id (now (template .entry)) ⌝ }
-        ensures after { λ _. ⌜ held (now (self .exit)) ≡ addAfter size (room (now (self .entry))) (held (now (self .entry))) id (now (template .entry)) ⌝ }
+        ensures value { λ r. ⌜ r ≡ addAnswer size
+            (room (now (self .entry))) (held (now (self .entry))) id (now (template .entry)) ⌝ }
+        ensures after { λ _. ⌜ held (now (self .exit)) ≡ addAfter size
+            (room (now (self .entry))) (held (now (self .entry))) id (now (template .entry)) ⌝ }
         ensures room_same { λ _. ⌜ room (now (self .exit)) ≡ room (now (self .entry)) ⌝ };
 
     /// Takes the template at a place out, and says whether there was one; the others keep their order.

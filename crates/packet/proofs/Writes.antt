@@ -15,16 +15,16 @@ use Rattle.codes.specs.declared.numbered.Coded.{Coded}
 use Rattle.packet.specs.declared.form.Form.{Form}
 use Rattle.packet.specs.declared.form.Form.the-variants.{Standard, Network}
 use Rattle.packet.specs.declared.form.Head.{Head}
-use Rattle.packet.specs.Heads.{headBytes, headLength}
+use Rattle.packet.specs.Heads.{headBytes, headLength, inForm}
 use Rattle.packet.specs.Packets.{packetBytes, written, writtenCount}
 
 -- a packet in the form f, which is its own
 pub in-form : (f : Form) (h : Head) (w out : List ℕ) → h .form ≡ f
-    → w ≡ headBytes (record { form = f; command = h .command; param = h .param; size = h .size; flag = h .flag })
+    → w ≡ headBytes (inForm f h)
     → w ++ drop (headLength f) out ≡ headBytes h ++ drop (headLength (h .form)) out
 in-form f h w out same e =
     ap (λ l. l ++ drop (headLength f) out) e
-    ∙ ap (λ g. headBytes (record { form = g; command = h .command; param = h .param; size = h .size; flag = h .flag }) ++ drop (headLength g) out) (sym same)
+    ∙ ap (λ g. headBytes (inForm g h) ++ drop (headLength g) out) (sym same)
 
 -- how long a packet is
 length-in : (f : Form) (command : Coded Command) (param size flag : ℕ)

@@ -7,7 +7,13 @@ use denote.Ref.{RefT}
 use Rattle.std.specs.declared.result.Result.{Result}
 use Rattle.std.specs.declared.result.Result.the-variants.{Ok, Err}
 use Rattle.codes.specs.declared.command.Command.{Command}
-use Rattle.codes.specs.declared.command.Command.the-variants.{EnrollTemplate, Unlock, ChangePassword, ListTemplates, ReadTemplate}
+use Rattle.codes.specs.declared.command.Command.the-variants.{
+  EnrollTemplate,
+  Unlock,
+  ChangePassword,
+  ListTemplates,
+  ReadTemplate,
+}
 use Rattle.codes.specs.declared.code.Code.{Code}
 use Rattle.codes.specs.declared.code.Code.the-variants.{Success}
 use Rattle.codes.specs.declared.numbered.Coded.{Coded}

@@ -39,6 +39,10 @@ fieldBytes command param size flag = byteOf commandNumber command ∷ (bytes32 p
 abbrev pub summedBytes : Head → List ℕ
 summedBytes h = startBytes (h .form) ++ fieldBytes (h .command) (h .param) (h .size) (h .flag)
 
+-- the same fields in another form
+abbrev pub inForm : Form → Head → Head
+inForm form h = record { form = form; command = h .command; param = h .param; size = h .size; flag = h .flag }
+
 -- a packet without data
 abbrev pub headBytes : Head → List ℕ
 headBytes h = summedBytes h ++ checksumOf (summedBytes h) ∷ 0x0A ∷ []

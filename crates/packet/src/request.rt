@@ -48,7 +48,8 @@ fn is_for(form: Form, own: u16) -> bool
 
 /// The data of a request, which has nothing behind it.
 fn request_data(head: Head, rest: &[u8]) -> Result<&[u8], Refusal>
-    ensures value { λ r. ⌜ seenBytes r ≡ nothingBehind (splitData (asksWithData (head .command)) (head .size) (now (rest .entry))) ⌝ }
+    ensures value { λ r. ⌜ seenBytes r ≡ nothingBehind
+        (splitData (asksWithData (head .command)) (head .size) (now (rest .entry))) ⌝ }
     ensures back { λ r. ⌜ made r (λ x. dataBytes (asksWithData (head .command)) (x .now) ≡ now (rest .entry)) ⌝ }
 {
     let (data, behind) = split_data(asks_with_data(head.command), head.size, rest)?;
@@ -94,7 +95,8 @@ pub fn read_request(frame: &[u8], mode: NetworkMode, own: u16) -> Result<Request
 pub fn write_request(out: &mut [u8], request: Request<'_>) -> Option<usize>
     ensures count { λ r. ⌜ r ≡ writtenCount (requestBytes (requestParts (request .entry))) (now (out .entry)) ⌝ }
     ensures bytes { λ _. ⌜ now (out .exit) ≡ written (requestBytes (requestParts (request .entry))) (now (out .entry)) ⌝ }
-    ensures reads { λ r. ⌜ ((mode : NetworkMode) (own : ℕ) → Heard mode own (requestParts (request .entry)) → found r (λ n. readRequest mode own (take n (now (out .exit))) ≡ Ok (requestParts (request .entry)))) ⌝ }
+    ensures reads { λ r. ⌜ ((mode : NetworkMode) (own : ℕ) → Heard mode own (requestParts (request .entry))
+        → found r (λ n. readRequest mode own (take n (now (out .exit))) ≡ Ok (requestParts (request .entry)))) ⌝ }
 {
     let head = Head {
         form: request.form,

@@ -128,7 +128,8 @@ fn reply_length(own: u16, reply: Reply<'_>) -> usize
 fn put_reply(out: &mut [u8], own: u16, reply: Reply<'_>) -> usize
     requires { ⌜ length (replyBytes own reply) ≤ length (now out) ⌝ }
     ensures count { λ r. ⌜ r ≡ length (replyBytes own (reply .entry)) ⌝ }
-    ensures bytes { λ _. ⌜ now (out .exit) ≡ replyBytes own (reply .entry) ++ drop (length (replyBytes own (reply .entry))) (now (out .entry)) ⌝ }
+    ensures bytes { λ _. ⌜ now (out .exit) ≡ replyBytes own (reply .entry)
+        ++ drop (length (replyBytes own (reply .entry))) (now (out .entry)) ⌝ }
 {
     match reply_form(own, reply.to) {
         None => 0,
@@ -144,7 +145,8 @@ fn put_reply(out: &mut [u8], own: u16, reply: Reply<'_>) -> usize
 pub fn write_reply(out: &mut [u8], own: u16, reply: Reply<'_>) -> Option<usize>
     ensures count { λ r. ⌜ r ≡ writtenCount (replyBytes own (reply .entry)) (now (out .entry)) ⌝ }
     ensures bytes { λ _. ⌜ now (out .exit) ≡ written (replyBytes own (reply .entry)) (now (out .entry)) ⌝ }
-    ensures reads { λ r. ⌜ (Proper (reply .entry) → found r (λ n. ReadAs (take n (now (out .exit))) (sent own (reply .entry)))) ⌝ }
+    ensures reads { λ r. ⌜ (Proper (reply .entry)
+        → found r (λ n. ReadAs (take n (now (out .exit))) (sent own (reply .entry)))) ⌝ }
 {
     if out.len() < reply_length(own, reply) {
         return None;
@@ -155,9 +157,12 @@ pub fn write_reply(out: &mut [u8], own: u16, reply: Reply<'_>) -> Option<usize>
 /// Writes two replies, the second right behind the first, and says how many bytes they take.
 /// Where they have no room, nothing is written.
 pub fn write_replies(out: &mut [u8], own: u16, first: Reply<'_>, second: Reply<'_>) -> Option<usize>
-    ensures count { λ r. ⌜ r ≡ writtenCount (replyBytes own (first .entry) ++ replyBytes own (second .entry)) (now (out .entry)) ⌝ }
-    ensures bytes { λ _. ⌜ now (out .exit) ≡ written (replyBytes own (first .entry) ++ replyBytes own (second .entry)) (now (out .entry)) ⌝ }
-    ensures reads { λ r. ⌜ (Proper (first .entry) → Proper (second .entry) → found r (λ n. ReadAs (take n (now (out .exit))) (sent own (first .entry) ++ sent own (second .entry)))) ⌝ }
+    ensures count { λ r. ⌜ r ≡ writtenCount
+        (replyBytes own (first .entry) ++ replyBytes own (second .entry)) (now (out .entry)) ⌝ }
+    ensures bytes { λ _. ⌜ now (out .exit) ≡ written
+        (replyBytes own (first .entry) ++ replyBytes own (second .entry)) (now (out .entry)) ⌝ }
+    ensures reads { λ r. ⌜ (Proper (first .entry) → Proper (second .entry)
+        → found r (λ n. ReadAs (take n (now (out .exit))) (sent own (first .entry) ++ sent own (second .entry)))) ⌝ }
 {
     let length = reply_length(own, first);
     if out.len() < length {

@@ -2,7 +2,7 @@ ghost use mathlib.Core.Path.{_≡_};
 ghost use mathlib.Core.List.{[], _∷_, _++_};
 ghost use Prim.Native.Nat.{_+_, _≤_};
 ghost use lib.ListN.{drop, length};
-ghost use Rattle.packet.specs.Heads.{headBytes, headLength};
+ghost use Rattle.packet.specs.Heads.{headBytes, headLength, inForm};
 ghost use Rattle.packet.specs.Packets.{packetBytes};
 ghost use Rattle.packet.specs.declared.form.Form.the-variants.{Standard, Network};
 use crate::checksum::checksum;
@@ -15,7 +15,7 @@ use codes::CommandNumbered;
 
 /// The 13 bytes of a standard packet with these fields.
 fn standard_bytes(head: Head) -> [u8; 13]
-    ensures { λ r. ⌜ r ≡ headBytes (record { form = Standard; command = head .command; param = head .param; size = head .size; flag = head .flag }) ⌝ }
+    ensures { λ r. ⌜ r ≡ headBytes (inForm Standard head) ⌝ }
 {
     let command = head.command.byte();
     let [p0, p1, p2, p3] = head.param.to_le_bytes();
@@ -42,7 +42,7 @@ fn standard_bytes(head: Head) -> [u8; 13]
 
 /// The 15 bytes of a network packet with these fields.
 fn network_bytes(terminal: u16, head: Head) -> [u8; 15]
-    ensures { λ r. ⌜ r ≡ headBytes (record { form = Network terminal; command = head .command; param = head .param; size = head .size; flag = head .flag }) ⌝ }
+    ensures { λ r. ⌜ r ≡ headBytes (inForm (Network terminal) head) ⌝ }
 {
     let [t0, t1] = terminal.to_le_bytes();
     let command = head.command.byte();
@@ -74,7 +74,8 @@ fn network_bytes(terminal: u16, head: Head) -> [u8; 15]
 pub(crate) fn write_head(out: &mut [u8], head: Head) -> usize
     requires { ⌜ headLength (head .form) ≤ length (now out) ⌝ }
     ensures count { λ r. ⌜ r ≡ headLength (head .form) ⌝ }
-    ensures bytes { λ _. ⌜ now (out .exit) ≡ headBytes head ++ drop (headLength (head .form)) (now (out .entry)) ⌝ }
+    ensures bytes { λ _. ⌜ now (out .exit) ≡ headBytes head
+        ++ drop (headLength (head .form)) (now (out .entry)) ⌝ }
 {
     match head.form {
         Form::Standard => {
@@ -92,7 +93,8 @@ pub(crate) fn write_head(out: &mut [u8], head: Head) -> usize
 pub(crate) fn write_data(out: &mut [u8], data: &[u8]) -> usize
     requires { ⌜ length (now «data») + 1 ≤ length (now out) ⌝ }
     ensures count { λ r. ⌜ r ≡ length (now («data» .entry)) + 1 ⌝ }
-    ensures bytes { λ _. ⌜ now (out .exit) ≡ (now («data» .entry) ++ 0x0A ∷ []) ++ drop (length (now («data» .entry)) + 1) (now (out .entry)) ⌝ }
+    ensures bytes { λ _. ⌜ now (out .exit) ≡ (now («data» .entry) ++ 0x0A ∷ [])
+        ++ drop (length (now («data» .entry)) + 1) (now (out .entry)) ⌝ }
 {
     let n = data.len();
     out[0..n].copy_from_slice(data);
@@ -122,7 +124,8 @@ pub(crate) fn packet_length(head: Head, carries: bool, data: &[u8]) -> usize
 pub(crate) fn write_packet(out: &mut [u8], head: Head, carries: bool, data: &[u8]) -> usize
     requires { ⌜ length (packetBytes head carries (now «data»)) ≤ length (now out) ⌝ }
     ensures count { λ r. ⌜ r ≡ length (packetBytes head carries (now («data» .entry))) ⌝ }
-    ensures bytes { λ _. ⌜ now (out .exit) ≡ packetBytes head carries (now («data» .entry)) ++ drop (length (packetBytes head carries (now («data» .entry)))) (now (out .entry)) ⌝ }
+    ensures bytes { λ _. ⌜ now (out .exit) ≡ packetBytes head carries (now («data» .entry))
+        ++ drop (length (packetBytes head carries (now («data» .entry)))) (now (out .entry)) ⌝ }
 {
     let n = write_head(out, head);
     if carries {

@@ -27,7 +27,10 @@ fn try_at<M: Matcher, S: Memory, A: Allowed>(
 ) -> Option<u16>
     requires { ⌜ S·Memory .size ≤ length (now work) ⌝ }
     requires { ⌜ place < length (S·Memory .held (now memory)) ⌝ }
-    ensures { λ r. ⌜ r ≡ idIf (passes (A·Allowed .allowed (now (allowed .entry))) (λ t. M·Matcher .yes (now (matcher .entry)) t (now (scan .entry)) (strictness .value))) (heldAt (S·Memory .held (now (memory .entry))) place) ⌝ }
+    ensures { λ r. ⌜ r ≡ idIf
+        (passes (A·Allowed .allowed (now (allowed .entry)))
+        (λ t. M·Matcher .yes (now (matcher .entry)) t (now (scan .entry)) (strictness .value)))
+        (heldAt (S·Memory .held (now (memory .entry))) place) ⌝ }
 {
     let id = memory.id_at(place)?;
     if !allowed.allows(id) {
@@ -51,8 +54,16 @@ pub fn search_oldest<M: Matcher, S: Memory, A: Allowed>(
     strictness: Strictness,
     work: &mut [u8],
 ) -> Option<(u16, u32)>
-    ensures value { λ r. ⌜ r ≡ cond (leb (S·Memory .size) (length (now (work .entry)))) (oldest (passes (A·Allowed .allowed (now (allowed .entry))) (λ t. M·Matcher .yes (now (matcher .entry)) t (now (scan .entry)) (strictness .value))) (S·Memory .held (now (memory .entry)))) None ⌝ }
-    ensures finds { λ r. ⌜ (S·Memory .size ≤ length (now (work .entry)) → FindsOldest (passes (A·Allowed .allowed (now (allowed .entry))) (λ t. M·Matcher .yes (now (matcher .entry)) t (now (scan .entry)) (strictness .value))) (S·Memory .held (now (memory .entry))) r) ⌝ }
+    ensures value { λ r. ⌜ r ≡ cond (leb (S·Memory .size) (length (now (work .entry))))
+        (oldest
+        (passes (A·Allowed .allowed (now (allowed .entry)))
+        (λ t. M·Matcher .yes (now (matcher .entry)) t (now (scan .entry)) (strictness .value)))
+        (S·Memory .held (now (memory .entry))))
+        None ⌝ }
+    ensures finds { λ r. ⌜ (S·Memory .size ≤ length (now (work .entry)) → FindsOldest
+        (passes (A·Allowed .allowed (now (allowed .entry)))
+        (λ t. M·Matcher .yes (now (matcher .entry)) t (now (scan .entry)) (strictness .value)))
+        (S·Memory .held (now (memory .entry))) r) ⌝ }
 {
     if work.len() < S::template_size() {
         return None;
@@ -73,7 +84,9 @@ pub fn any_agrees<M: Matcher, S: Memory>(
     strictness: Strictness,
     work: &mut [u8],
 ) -> bool
-    ensures { λ r. ⌜ r ≡ leb (S·Memory .size) (length (now (work .entry))) && anyOf (λ e. M·Matcher .yes (now (matcher .entry)) (e .template) (now (scan .entry)) (strictness .value)) (S·Memory .held (now (memory .entry))) ⌝ }
+    ensures { λ r. ⌜ r ≡ leb (S·Memory .size) (length (now (work .entry))) && anyOf
+        (λ e. M·Matcher .yes (now (matcher .entry)) (e .template) (now (scan .entry)) (strictness .value))
+        (S·Memory .held (now (memory .entry))) ⌝ }
 {
     search_oldest(matcher, memory, &Everyone, scan, strictness, work).is_some()
 }

@@ -1,0 +1,4 @@
+pub mod Listed
+pub mod Written
+pub mod Added
+pub mod Struck

@@ -14,10 +14,10 @@ use Rattle.search.proofs.oldest.try_at.Needs.{After-agrees}
 -- what the matcher answered decides
 asked : (g : given.Over) (c : After-agrees g) → (b : Bool) → c .agrees .result ≡ b
     → cond b (Some (c .in-Continue-id .id)) None
-      ≡ idIf
-      (passes (g .A·Allowed .allowed (c .args .allowed .now))
-      (λ t. g .M·Matcher .yes (c .args .matcher .now) t (c .args .scan .now) (c .args .strictness .value)))
-      (heldAt (g .S·Memory .held (c .args .memory .now)) (c .args .place))
+    ≡ idIf
+    (passes (g .A·Allowed .allowed (c .args .allowed .now))
+    (λ t. g .M·Matcher .yes (c .args .matcher .now) t (c .args .scan .now) (c .args .strictness .value)))
+    (heldAt (g .S·Memory .held (c .args .memory .now)) (c .args .place))
 asked g c b e =
     let h = g .S·Memory .held (c .args .memory .now) in
     let agrees : List ℕ → Bool = λ t. g .M·Matcher .yes (c .args .matcher .now) t (c .args .scan .now) (c .args .strictness .value) in

@@ -1,0 +1,11 @@
+pub mod Settings
+pub mod State
+pub mod Searches
+pub mod Administrators
+pub mod Answers
+pub mod Ids
+pub mod Enrollment
+pub mod Requests
+pub mod Waiting
+pub mod Machine
+pub mod Tried

@@ -149,13 +149,14 @@ enroll s q by missing needed f =
     cond missing (just s q Unsupported)
     (unless (enrollFault s flag id needed) (just s q) (f (record { id = id; flag = flag; by = by })))))
 
--- ET: one template, which comes as data
-abbrev pub enrollTemplate : State → RequestParts → Step
-enrollTemplate s q =
-    cond (not (eqb (q .size) (s .size))) (just s q Unsupported)
-    (enroll s q Host false 1 (λ e.
+-- ET: one template, which comes as data, is enrolled at once
+abbrev pub enrollNow : State → RequestParts → Enrollment → Step
+enrollNow s q e =
     cond (looksUp (e .flag) && anyAgrees s (q .«data»)) (just s q ExistFinger)
-    (go (enrolled s e (q .«data» ∷ [])) (answer q (e .id) 0 Success))))
+    (go (enrolled s e (q .«data» ∷ [])) (answer q (e .id) 0 Success))
+
+abbrev pub enrollTemplate : State → RequestParts → Step
+enrollTemplate s q = cond (not (eqb (q .size) (s .size))) (just s q Unsupported) (enroll s q Host false 1 (enrollNow s q))
 
 -- VS
 abbrev pub verify : State → RequestParts → Step

@@ -67,76 +67,35 @@ fresh agree size room own = record {
   waiting = None;
 }
 
--- the state with one part changed
-abbrev pub awaiting : State → Option Waiting → State
-awaiting s w = record {
+-- the same module with other contents
+abbrev pub remade : State → List Held → Bool → List ℕ → Settings → List AdminRow → Option Waiting → State
+remade s held locked password settings admins waiting = record {
   agree = s .agree;
   size = s .size;
   room = s .room;
-  held = s .held;
+  held = held;
   own = s .own;
-  locked = s .locked;
-  password = s .password;
-  settings = s .settings;
-  admins = s .admins;
-  waiting = w;
+  locked = locked;
+  password = password;
+  settings = settings;
+  admins = admins;
+  waiting = waiting;
 }
+
+abbrev pub awaiting : State → Option Waiting → State
+awaiting s w = remade s (s .held) (s .locked) (s .password) (s .settings) (s .admins) w
 
 abbrev pub holding : State → List Held → List AdminRow → State
-holding s h rows = record {
-  agree = s .agree;
-  size = s .size;
-  room = s .room;
-  held = h;
-  own = s .own;
-  locked = s .locked;
-  password = s .password;
-  settings = s .settings;
-  admins = rows;
-  waiting = s .waiting;
-}
+holding s h rows = remade s h (s .locked) (s .password) (s .settings) rows (s .waiting)
 
 abbrev pub locking : State → Bool → State
-locking s b = record {
-  agree = s .agree;
-  size = s .size;
-  room = s .room;
-  held = s .held;
-  own = s .own;
-  locked = b;
-  password = s .password;
-  settings = s .settings;
-  admins = s .admins;
-  waiting = s .waiting;
-}
+locking s b = remade s (s .held) b (s .password) (s .settings) (s .admins) (s .waiting)
 
 abbrev pub guarded : State → List ℕ → State
-guarded s password = record {
-  agree = s .agree;
-  size = s .size;
-  room = s .room;
-  held = s .held;
-  own = s .own;
-  locked = s .locked;
-  password = password;
-  settings = s .settings;
-  admins = s .admins;
-  waiting = s .waiting;
-}
+guarded s password = remade s (s .held) (s .locked) password (s .settings) (s .admins) (s .waiting)
 
 abbrev pub configured : State → Settings → State
-configured s settings = record {
-  agree = s .agree;
-  size = s .size;
-  room = s .room;
-  held = s .held;
-  own = s .own;
-  locked = s .locked;
-  password = s .password;
-  settings = settings;
-  admins = s .admins;
-  waiting = s .waiting;
-}
+configured s settings = remade s (s .held) (s .locked) (s .password) settings (s .admins) (s .waiting)
 
 -- the command of a request that waits
 abbrev pub enrollCommand : Enroller → Command

@@ -1,0 +1,85 @@
+-- The ways of a step: what holds on each holds of the step.
+use mathlib.Core.Path.{_≡_, refl}
+use mathlib.Core.Bool.{Bool, true, false, cond}
+use mathlib.Core.List.{[], _∷_}
+use Prim.Native.Nat.{ℕ}
+use native.Mathlib.Omega.{arith}
+use Rattle.codes.specs.Commands.{commandNumber}
+use Rattle.codes.specs.declared.code.Code.{Code}
+use Rattle.codes.specs.declared.command.Command.{Command}
+use Rattle.codes.specs.declared.command.Command.the-variants.{
+  WriteParameter,
+  ReadParameter,
+  Enroll,
+  EnrollTemplate,
+  Verify,
+  Identify,
+  ReadTemplate,
+  Delete,
+  DeleteAll,
+  ListTemplates,
+  Cancel,
+  WriteLevel,
+  EnrollByAdministrator,
+  DeleteByAdministrator,
+  Unlock,
+  Lock,
+  ChangePassword,
+}
+use Rattle.codes.specs.declared.numbered.Coded.{Coded}
+use Rattle.codes.specs.declared.numbered.Coded.the-variants.{Known, Unknown}
+use Rattle.packet.specs.Data.{knownAmong}
+use Rattle.packet.specs.Requests.{RequestParts}
+use Rattle.std.specs.declared.option.Option.{Option}
+use Rattle.std.specs.declared.option.Option.the-variants.{Some, None}
+use Rattle.machine.specs.Answers.{Step}
+use Rattle.machine.specs.Requests.{given, started, unless, unlock}
+use Rattle.machine.specs.State.{State}
+
+pub by-test : {X : Type 0} (P : X → Type 0) (b : Bool) (x y : X) → (b ≡ true → P x) → (b ≡ false → P y) → P (cond b x y)
+by-test P true x y p q = p refl
+by-test P false x y p q = q refl
+
+pub never : {Y : Type 0} → false ≡ true → Y
+never e = let z : _≡_ {A = ℕ} 0 1 = cc in absurd (omega arith)
+
+-- a test that is known
+pub at-true : {X : Type 0} (P : X → Type 0) (b : Bool) (x y : X) → b ≡ true → P x → P (cond b x y)
+at-true P true x y e p = p
+at-true P false x y e p = never e
+
+-- the same test on both sides
+pub both-ways : {X : Type 0} (R : X → X → Type 0) (b : Bool) (x x′ y y′ : X) → (b ≡ true → R x x′) → (b ≡ false → R y y′)
+    → R (cond b x y) (cond b x′ y′)
+both-ways R true x x′ y y′ p q = p refl
+both-ways R false x x′ y y′ p q = q refl
+
+pub by-given : {X : Type 0} (P : Step → Type 0) (o : Option X) (other : Step) (f : X → Step) → P other → ((x : X) → P (f x)) → P (given o other f)
+by-given P None other f p q = p
+by-given P (Some x) other f p q = q x
+
+pub by-unless : (P : Step → Type 0) (o : Option Code) (fail : Code → Step) (step : Step) → ((k : Code) → P (fail k)) → P step → P (unless o fail step)
+by-unless P None fail step p q = q
+by-unless P (Some k) fail step p q = p k
+
+-- of all commands, only UM is UM
+pub only-unlock : (P : Step → Type 0) (s : State) (q : RequestParts) (c : Coded Command) → knownAmong commandNumber (Unlock ∷ []) c ≡ true
+    → P (unlock s q) → P (started s q c)
+only-unlock P s q (Known WriteParameter) e p = never e
+only-unlock P s q (Known ReadParameter) e p = never e
+only-unlock P s q (Known Enroll) e p = never e
+only-unlock P s q (Known EnrollTemplate) e p = never e
+only-unlock P s q (Known Verify) e p = never e
+only-unlock P s q (Known Identify) e p = never e
+only-unlock P s q (Known ReadTemplate) e p = never e
+only-unlock P s q (Known Delete) e p = never e
+only-unlock P s q (Known DeleteAll) e p = never e
+only-unlock P s q (Known ListTemplates) e p = never e
+only-unlock P s q (Known Cancel) e p = never e
+only-unlock P s q (Known WriteLevel) e p = never e
+only-unlock P s q (Known EnrollByAdministrator) e p = never e
+only-unlock P s q (Known DeleteByAdministrator) e p = never e
+only-unlock P s q (Known Unlock) e p = p
+only-unlock P s q (Known Lock) e p = never e
+only-unlock P s q (Known ChangePassword) e p = never e
+only-unlock P s q (Unknown n) e p = never e

@@ -24,8 +24,8 @@ use Rattle.machine.specs.Machine.Event.{packet, finger, second}
 use Rattle.machine.specs.Requests.{passwordAt, sumRight, unlock}
 use Rattle.machine.specs.State.{State, Waiting, locking}
 use Rattle.machine.specs.Waiting.{onFinger, onSecond}
-use Rattle.promises.specs.Locked.{Locked-alike, Locked-idle, anyUnlocking, shownLocked, unlocks}
-use Rattle.promises.specs.Runs.{Reached, Shown, answered, shown}
+use Rattle.promises.specs.Locked.{Locked-alike, Locked-idle, shownLocked, unlocks}
+use Rattle.promises.specs.Runs.{Shown, answered, shown}
 use Rattle.promises.proofs.Sound.{reached-sound}
 use Rattle.promises.proofs.Ways.{at-true, both-ways, never, only-unlock}
 

@@ -1,3 +1,15 @@
 pub mod Ways
 pub mod Sound
 pub mod Alike
+pub mod Counts
+pub mod Pending
+pub mod Reading
+pub mod Earned
+pub mod Places
+pub mod Ends
+pub mod Ledger
+pub mod LedgerSteps
+pub mod Listed
+pub mod Tallies
+pub mod Whole
+pub mod Refused

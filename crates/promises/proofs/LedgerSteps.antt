@@ -63,7 +63,6 @@ use Rattle.std.specs.declared.option.Option.the-variants.{Some, None}
 use Rattle.std.specs.declared.result.Result.{Result}
 use Rattle.std.specs.declared.result.Result.the-variants.{Ok, Err}
 use Rattle.std.specs.shelf.Text.{sameBytes}
-use Rattle.std.proofs.shelf.Tests.{eqb-true}
 use Rattle.machine.specs.Administrators.{anyAdmin, isAdmin, levelOf, mayDelete, mayEnroll, struck}
 use Rattle.machine.specs.Answers.{Step, answerData, go, just, outcome, tell}
 use Rattle.machine.specs.Enrollment.{adds, enrollId, enrolled, looksUp}
@@ -116,22 +115,15 @@ use Rattle.promises.proofs.Ledger.{Follows, Ledger, answers, asks, calm, conti
 use Rattle.promises.proofs.Pending.{Detail}
 use Rattle.promises.proofs.Reading.{packet-there}
 use Rattle.promises.proofs.Sound.{Sound}
-use Rattle.promises.proofs.Ways.{by-fault, by-given, by-test, given-some, never, only-unlock}
+use Rattle.promises.proofs.Ways.{by-fault, by-given, by-test, given-some, is-command, only-unlock}
 
 -- the ledger after a call that was not refused
 pub record After (own n : ℕ) (w : Owner) (ts : List Told) (e : Event) (x : Step) : Type 0 where
   pub ledger : Ledger (suc n) (waits own e (answered (Ok x)) n w) (tells own e n w (answered (Ok x)) ts) (x .next .waiting)
 
-or-false : (b : Bool) → (b || false) ≡ true → b ≡ true
-or-false true e = refl
-or-false false e = never e
-
 -- a command that is one that needs no grant
 needs-none : (d : Command) (c : Coded Command) → needsGrant (Known d) ≡ false → knownAmong commandNumber (d ∷ []) c ≡ true → needsGrant c ≡ false
-needs-none d (Known c) g e =
-    let k : commandNumber c ≡ commandNumber d = eqb-true (commandNumber c) (commandNumber d) (or-false (eqb (commandNumber c) (commandNumber d)) e) in
-    ap (λ m. eqb m (commandNumber EnrollByAdministrator) || (eqb m (commandNumber DeleteByAdministrator) || false)) k ∙ g
-needs-none d (Unknown n) g e = never e
+needs-none d c g e = ap needsGrant (is-command d c e) ∙ g
 
 needs-by : (by : Enroller) → needsGrant (Known (enrollCommand by)) ≡ byGrant by
 needs-by Host = refl
@@ -288,7 +280,7 @@ module _ (own n : ℕ) (w : Owner) (ts : List Told) (frame : List ℕ) (q : Requ
           by-given Heard (enrollId s flag (q .param)) _ _ (bad InvalidId refl refl) (λ id.
           by-test Heard missing _ _ (λ _. bad Unsupported refl refl) (λ _.
           by-fault Heard s flag id needed (just s q) _ (bad ExistId refl refl) (bad FingerLimit refl refl) (bad MemFull refl refl)
-          (p (record { id = id; flag = flag; by = by }) refl h))))
+          (λ _. p (record { id = id; flag = flag; by = by }) refl h))))
 
       on-levelled : needsGrant (q .command) ≡ false → (v : Wanted) → Heard (levelled s q v)
       on-levelled g noLevel = good _ refl g 0 0 []

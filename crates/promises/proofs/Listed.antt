@@ -8,7 +8,6 @@ use lib.Dec.{eqb, ltb}
 use lib.ListN.{length, replicate}
 use Rattle.codes.specs.Flags.{flagNumber}
 use Rattle.codes.specs.Numbers.{caseOf}
-use Rattle.codes.specs.declared.code.Code.{Code}
 use Rattle.codes.specs.declared.code.Code.the-variants.{ExistId, FingerLimit, MemFull}
 use Rattle.codes.specs.declared.flag.EnrollFlag.{EnrollFlag}
 use Rattle.codes.specs.declared.flag.EnrollFlag.the-variants.{Replace, CheckId, AddNew, AutoId, CheckFinger}
@@ -28,8 +27,7 @@ use Rattle.machine.specs.Searches.{without}
 use Rattle.machine.specs.State.{State}
 use Rattle.machine.specs.declared.level.AdminRow.{AdminRow}
 use Rattle.machine.specs.declared.level.Level.{Level}
-use Rattle.promises.specs.Record.{has, mark, strike}
-use Rattle.promises.specs.Record.Mark.{failure}
+use Rattle.promises.specs.Record.{has, strike}
 use Rattle.promises.proofs.Ways.{never}
 
 -- the IDs of held templates
@@ -271,22 +269,6 @@ stay h CheckId id = all-stay h CheckId id refl refl
 stay h AddNew id = all-stay h AddNew id refl refl
 stay h AutoId id = all-stay h AutoId id refl refl
 stay h CheckFinger id = all-stay h CheckFinger id refl refl
-
--- what stands in the way of an enrolment is a failure
-abbrev pub Fails : Option Code → Type 0
-Fails None = Unit {0}
-Fails (Some k) = mark k ≡ failure
-
-pub fault-fails : (s : State) (flag : EnrollFlag) (id needed : ℕ) → Fails (enrollFault s flag id needed)
-fault-fails s flag id needed =
-    at (needsNone flag && not (eqb (countOf id (s .held)) 0)) (adds flag && ltb 10 (countOf id (s .held) + needed))
-    (ltb (s .room - length (s .held)) needed)
-  where
-    at : (a b c : Bool) → Fails (cond a (Some ExistId) (cond b (Some FingerLimit) (cond c (Some MemFull) None)))
-    at true b c = refl
-    at false true c = refl
-    at false false true = refl
-    at false false false = tt
 
 -- no test stood in the way
 record Passed (a b c : Bool) : Type 0 where

@@ -27,6 +27,8 @@ use Rattle.codes.specs.declared.code.Code.the-variants.{
   Canceled,
   ExistFinger,
   Locked,
+  ExistId,
+  FingerLimit,
 }
 use Rattle.codes.specs.declared.command.Command.{Command}
 use Rattle.codes.specs.declared.command.Command.the-variants.{
@@ -68,25 +70,11 @@ use Rattle.std.specs.shelf.Lists.{countBy}
 use Rattle.std.specs.shelf.Text.{sameBytes}
 use Rattle.machine.specs.Administrators.{anyAdmin, changed, ifAny, isAdmin, levelOf, mayDelete, mayEnroll, struck}
 use Rattle.machine.specs.Answers.{Said, Step, answerData, go, just, outcome, tell}
-use Rattle.machine.specs.Enrollment.{enrollFault, enrollId, enrolled, looksUp, staying}
+use Rattle.machine.specs.Enrollment.{enrollId, enrolled, looksUp, staying}
 use Rattle.machine.specs.Ids.{isId, rangeOf}
 use Rattle.machine.specs.Machine.{Call, Event, asked, heard, nextOf, onEvent, requested, stepOf}
 use Rattle.machine.specs.Machine.Event.{packet, finger, second}
-use Rattle.machine.specs.Requests.{
-  Wanted,
-  enroll,
-  enrollNow,
-  given,
-  known,
-  levelIn,
-  levelled,
-  parameterValue,
-  passwordAt,
-  started,
-  sumRight,
-  unless,
-  waitFor,
-}
+use Rattle.machine.specs.Requests.{Wanted, enroll, enrollNow, known, levelIn, levelled, parameterValue, passwordAt, started, sumRight, waitFor}
 use Rattle.machine.specs.Requests.Wanted.{noLevel, wanted}
 use Rattle.machine.specs.Searches.{agrees, anyAgrees, foundBy, foundIn, foundOne, without}
 use Rattle.machine.specs.Settings.{set, settingOf, templatesIn}
@@ -157,44 +145,10 @@ use Rattle.promises.specs.Record.{
 use Rattle.promises.specs.Record.Mark.{failure}
 use Rattle.promises.specs.Record.Owner.{nobody, owner}
 use Rattle.promises.specs.Runs.{answered}
-use Rattle.promises.proofs.Listed.{
-  Allowed,
-  Fails,
-  Fits,
-  Stay,
-  case-number,
-  clash,
-  count-append,
-  count-ids,
-  count-under,
-  count-without,
-  either-way,
-  fault-fails,
-  fits,
-  found-allowed,
-  has-kept,
-  has-neither,
-  has-struck,
-  has-there,
-  ids,
-  ids-under,
-  ids-without,
-  is-it,
-  length-without,
-  level-changed,
-  level-changed-kept,
-  level-kept,
-  level-pushed,
-  level-pushed-kept,
-  level-struck,
-  not-first,
-  stay,
-  under,
-}
+use Rattle.promises.proofs.Listed.{Allowed, Fits, Stay, case-number, clash, count-append, count-ids, count-under, count-without, either-way, fits, found-allowed, has-kept, has-neither, has-struck, has-there, ids, ids-under, ids-without, is-it, length-without, level-changed, level-changed-kept, level-kept, level-pushed, level-pushed-kept, level-struck, not-first, stay, under}
 use Rattle.promises.proofs.Pending.{Detail, Pending, PendingAt}
 use Rattle.promises.proofs.Reading.{packet-there}
-use Rattle.promises.proofs.Sound.{Sound}
-use Rattle.promises.proofs.Ways.{by-test, by-given, never}
+use Rattle.promises.proofs.Ways.{by-fault, by-given, by-test, given-some, is-command, never}
 
 -- an enrolment that waits still has its room: it was tested when the request came, and nothing changed since
 abbrev pub RoomFor : State → Enrollment → Type 0
@@ -374,37 +328,6 @@ enrolled-changed {ts} {s} k e n needed t more c z fit =
           omega (arith, length-append base (under id (t ∷ more)), fit .free, b .shorter, k .room);
     }
 
--- the ways of a step, with what was looked at
-given-is : {X : Type 0} (P : Step → Type 0) (o : Option X) (other : Step) (f : X → Step) → P other → ((x : X) → o ≡ Some x → P (f x))
-    → P (given o other f)
-given-is P None other f p q = p
-given-is P (Some x) other f p q = q x refl
-
-unless-is : (P : Step → Type 0) (o : Option Code) (fail : Code → Step) (step : Step) → ((k : Code) → o ≡ Some k → P (fail k)) → (o ≡ None → P step)
-    → P (unless o fail step)
-unless-is P None fail step p q = q refl
-unless-is P (Some k) fail step p q = p k refl
-
-cancel-is : (c : Coded Command) → knownAmong commandNumber (Cancel ∷ []) c ≡ true → c ≡ Known Cancel
-cancel-is (Known WriteParameter) e = never e
-cancel-is (Known ReadParameter) e = never e
-cancel-is (Known Enroll) e = never e
-cancel-is (Known EnrollTemplate) e = never e
-cancel-is (Known Verify) e = never e
-cancel-is (Known Identify) e = never e
-cancel-is (Known ReadTemplate) e = never e
-cancel-is (Known Delete) e = never e
-cancel-is (Known DeleteAll) e = never e
-cancel-is (Known ListTemplates) e = never e
-cancel-is (Known Cancel) e = refl
-cancel-is (Known WriteLevel) e = never e
-cancel-is (Known EnrollByAdministrator) e = never e
-cancel-is (Known DeleteByAdministrator) e = never e
-cancel-is (Known Unlock) e = never e
-cancel-is (Known Lock) e = never e
-cancel-is (Known ChangePassword) e = never e
-cancel-is (Unknown n) e = never e
-
 -- whose a wait is
 record Owned (v : Owner) (phase : Phase) : Type 0 where
   place : ℕ
@@ -582,11 +505,10 @@ module _ (own n : ℕ) (v : Owner) (ts : List Told) (s : State) (k : Kept ts s) 
         → ((e : Enrollment) → caseOf flagNumber flags (q .flag) ≡ Some (e .flag) → Fits (s .room) (s .held) (e .flag) (e .id) needed → B (f e))
         → B (enroll s q by missing needed f)
     on-enroll by missing needed f small p =
-        given-is B (caseOf flagNumber flags (q .flag)) _ _ (refuse Unsupported refl) (λ flag c.
-        given-is B (enrollId s flag (q .param)) _ _ (refuse InvalidId refl) (λ id i.
+        given-some B (caseOf flagNumber flags (q .flag)) _ _ (refuse Unsupported refl) (λ flag c.
+        given-some B (enrollId s flag (q .param)) _ _ (refuse InvalidId refl) (λ id i.
         by-test B missing _ _ (λ _. refuse Unsupported refl) (λ _.
-        unless-is B (enrollFault s flag id needed) _ _
-        (λ code m. refuse code (let P : Option Code → Type 0 = λ x. Fails x in subst P m (fault-fails s flag id needed)))
+        by-fault B s flag id needed (just s q) _ (refuse ExistId refl) (refuse FingerLimit refl) (refuse MemFull refl)
         (λ m. p (record { id = id; flag = flag; by = by }) c (fits s flag (q .param) id needed small i m)))))
 
     -- it awaits nothing
@@ -632,8 +554,8 @@ module _ (own n : ℕ) (v : Owner) (ts : List Told) (s : State) (k : Kept ts s) 
 
       on-known : (c : Command) → q .command ≡ Known c → B (known s q c)
       on-known WriteParameter e =
-          given-is B (caseOf parameterNumber parameters (q .flag)) _ _ (refuse Unsupported refl) (λ p c.
-          given-is B (settingOf p (q .size)) _ _ (refuse Unsupported refl) (λ x d.
+          given-some B (caseOf parameterNumber parameters (q .flag)) _ _ (refuse Unsupported refl) (λ p c.
+          given-some B (settingOf p (q .size)) _ _ (refuse Unsupported refl) (λ x d.
           succeeds WriteParameter e (configured s (set (s .settings) x)) 0 0 [] (written p x c d) (free _ _ _)))
       on-known ReadParameter e =
           by-given B (caseOf parameterNumber parameters (q .flag)) _ _ (refuse Unsupported refl)
@@ -666,7 +588,7 @@ module _ (own n : ℕ) (v : Owner) (ts : List Told) (s : State) (k : Kept ts s) 
           (λ _. succeeds ListTemplates e s _ _ _ (unchanged k) (k .ready))
       on-known Cancel e = refuse NotFound refl
       on-known WriteLevel e =
-          given-is B (levelIn (q .flag)) _ _ (refuse Unsupported refl) (λ l z.
+          given-some B (levelIn (q .flag)) _ _ (refuse Unsupported refl) (λ l z.
           by-test B (not (isId (q .param))) _ _ (λ _. refuse InvalidId refl) (λ _.
           by-test B (eqb (countOf (q .param) (s .held)) 0) _ _ (λ _. refuse NotFound refl)
           (λ m. on-levelled e l z (has-there (q .param) (s .held) m))))
@@ -699,7 +621,7 @@ module _ (own n : ℕ) (v : Owner) (ts : List Told) (s : State) (k : Kept ts s) 
         (λ c. let j : Kept ((record { of = v; out = tell x 0 0 Canceled .outcome }) ∷ ts) (awaiting s None) =
         rested (fails k v (tell x 0 0 Canceled .outcome) refl) None tt in
         record {
-          kept = success-kept (packetAt own n frame) n q Cancel there (cancel-is (q .command) c) (q .command) 0 0 (j .allowed-then)
+          kept = success-kept (packetAt own n frame) n q Cancel there (is-command Cancel (q .command) c) (q .command) 0 0 (j .allowed-then)
               (unchanged j) tt;
         })
         (λ _. refuse Busy refl)
@@ -722,9 +644,9 @@ module _ (own n : ℕ) (v : Owner) (ts : List Told) (s : State) (k : Kept ts s) 
     on-event o (finger scan quality) = on-finger (s .waiting) (k .ready) o scan quality .kept
     on-event o second = on-second (s .waiting) (k .ready) .kept
 
-pub kept-step : (own n : ℕ) (w : Owner) (ts : List Told) (s : State) → own ≡ s .own → Sound s → Pending n (s .waiting) w ts → Kept ts s → (c : Call)
+pub kept-step : (own n : ℕ) (w : Owner) (ts : List Told) (s : State) → own ≡ s .own → Pending n (s .waiting) w ts → Kept ts s → (c : Call)
     → Kept (tells own (c .event) n w (answered (stepOf s c)) ts) (nextOf s (stepOf s c))
-kept-step own n w ts s mine _ o k c =
+kept-step own n w ts s mine o k c =
     let P : Result Step Refusal → Type 0 = λ r. Kept (tells own (c .event) n w (answered r) ts) (nextOf s r) in
     by-test P (ltb (length (c .out)) 2048) _ _ (λ _. k)
     (λ _. by-test P (ltb (length (c .work)) 384) _ _ (λ _. k) (λ _. on-event own n w ts s k mine o (c .event)))

@@ -1,12 +1,14 @@
 -- The ways of a step: what holds on each holds of the step.
-use mathlib.Core.Path.{_≡_, refl}
-use mathlib.Core.Bool.{Bool, true, false, cond, not, _&&_}
+use mathlib.Core.Path.{_≡_, refl, sym, _∙_, ap, subst}
+use mathlib.Core.Bool.{Bool, true, false, cond, not, _&&_, _||_}
 use mathlib.Core.List.{[], _∷_}
 use Prim.Native.Nat.{ℕ, _+_, _-_}
 use native.Mathlib.Omega.{arith}
 use lib.Dec.{eqb, ltb}
 use lib.ListN.{length}
-use Rattle.codes.specs.Commands.{commandNumber}
+use Rattle.codes.specs.Commands.{commandNumber, commands}
+use Rattle.codes.specs.Numbers.{caseOf}
+use Rattle.std.proofs.shelf.Tests.{eqb-true}
 use Rattle.codes.specs.declared.code.Code.{Code}
 use Rattle.codes.specs.declared.code.Code.the-variants.{ExistId, FingerLimit, MemFull}
 use Rattle.codes.specs.declared.command.Command.{Command}
@@ -76,34 +78,48 @@ by-unless P (Some k) fail step p q = p k
 
 -- what may stand in the way of an enrolment
 pub by-fault : (P : Step → Type 0) (s : State) (flag : EnrollFlag) (id needed : ℕ) (fail : Code → Step) (step : Step)
-    → P (fail ExistId) → P (fail FingerLimit) → P (fail MemFull) → P step → P (unless (enrollFault s flag id needed) fail step)
-by-fault P s flag id needed fail step a b c d =
-    let R : Option Code → Type 0 = λ o. P (unless o fail step) in
-    by-test R (needsNone flag && not (eqb (countOf id (s .held)) 0)) _ _ (λ _. a) (λ _.
-    by-test R (adds flag && ltb 10 (countOf id (s .held) + needed)) _ _ (λ _. b) (λ _.
-    by-test R (ltb (s .room - length (s .held)) needed) _ _ (λ _. c) (λ _. d)))
+    → P (fail ExistId) → P (fail FingerLimit) → P (fail MemFull) → (enrollFault s flag id needed ≡ None → P step)
+    → P (unless (enrollFault s flag id needed) fail step)
+by-fault P s flag id needed fail step a b c =
+    let R : Option Code → Type 0 = λ o. (o ≡ None → P step) → P (unless o fail step) in
+    by-test R (needsNone flag && not (eqb (countOf id (s .held)) 0)) _ _ (λ _ _. a) (λ _.
+    by-test R (adds flag && ltb 10 (countOf id (s .held) + needed)) _ _ (λ _ _. b) (λ _.
+    by-test R (ltb (s .room - length (s .held)) needed) _ _ (λ _ _. c) (λ _ d. d refl)))
 
 pub some-none : {X Y : Type 0} (x : X) → None ≡ Some x → Y
 some-none x e = let z : _≡_ {A = ℕ} 0 1 = cc in absurd (omega arith)
 
--- of all commands, only UM is UM
+-- a command's number is no other command's
+own-number : (c : Command) → caseOf commandNumber commands (commandNumber c) ≡ Some c
+own-number WriteParameter = refl
+own-number ReadParameter = refl
+own-number Enroll = refl
+own-number EnrollTemplate = refl
+own-number Verify = refl
+own-number Identify = refl
+own-number ReadTemplate = refl
+own-number Delete = refl
+own-number DeleteAll = refl
+own-number ListTemplates = refl
+own-number Cancel = refl
+own-number WriteLevel = refl
+own-number EnrollByAdministrator = refl
+own-number DeleteByAdministrator = refl
+own-number Unlock = refl
+own-number Lock = refl
+own-number ChangePassword = refl
+
+or-false : (b : Bool) → (b || false) ≡ true → b ≡ true
+or-false true e = refl
+or-false false e = never e
+
+pub is-command : (d : Command) (c : Coded Command) → knownAmong commandNumber (d ∷ []) c ≡ true → c ≡ Known d
+is-command d (Known c) e =
+    let k : commandNumber c ≡ commandNumber d = eqb-true (commandNumber c) (commandNumber d) (or-false (eqb (commandNumber c) (commandNumber d)) e) in
+    let z : Some c ≡ Some d = sym (own-number c) ∙ ap (caseOf commandNumber commands) k ∙ own-number d in
+    cc
+is-command d (Unknown n) e = never e
+
 pub only-unlock : (P : Step → Type 0) (s : State) (q : RequestParts) (c : Coded Command) → knownAmong commandNumber (Unlock ∷ []) c ≡ true
     → P (unlock s q) → P (started s q c)
-only-unlock P s q (Known WriteParameter) e p = never e
-only-unlock P s q (Known ReadParameter) e p = never e
-only-unlock P s q (Known Enroll) e p = never e
-only-unlock P s q (Known EnrollTemplate) e p = never e
-only-unlock P s q (Known Verify) e p = never e
-only-unlock P s q (Known Identify) e p = never e
-only-unlock P s q (Known ReadTemplate) e p = never e
-only-unlock P s q (Known Delete) e p = never e
-only-unlock P s q (Known DeleteAll) e p = never e
-only-unlock P s q (Known ListTemplates) e p = never e
-only-unlock P s q (Known Cancel) e p = never e
-only-unlock P s q (Known WriteLevel) e p = never e
-only-unlock P s q (Known EnrollByAdministrator) e p = never e
-only-unlock P s q (Known DeleteByAdministrator) e p = never e
-only-unlock P s q (Known Unlock) e p = p
-only-unlock P s q (Known Lock) e p = never e
-only-unlock P s q (Known ChangePassword) e p = never e
-only-unlock P s q (Unknown n) e p = never e
+only-unlock P s q c e p = let Q : Coded Command → Type 0 = λ x. P (started s q x) in subst Q (sym (is-command Unlock c e)) p

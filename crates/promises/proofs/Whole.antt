@@ -44,7 +44,7 @@ module _ (agree : List ℕ → List ℕ → ℕ → Bool) (size room own : ℕ) 
   kept [] = kept-start agree size room own
   kept (c ∷ h) =
       kept-step own (length (recordOf made h)) (waiter own (recordOf made h)) (outcomes h) (after made h) (sym (own-stays made h))
-      (sound agree size room own h) (ledger h .pending) (kept h) c
+      (ledger h .pending) (kept h) c
 
 pub always-promised : Always-promised
 always-promised agree size room own h =

@@ -1,13 +1,11 @@
 -- Calls, and what they answer: the whole machine.
 use mathlib.Core.List.{List, [], _∷_, _++_}
-use mathlib.Core.Bool.{Bool, cond, _||_}
+use mathlib.Core.Bool.{cond, _||_}
 use Prim.Native.Nat.{ℕ}
 use lib.Dec.{ltb}
 use lib.ListN.{length, drop, replicate}
 use Rattle.codes.specs.declared.code.Code.the-variants.{Success, Busy, Canceled, Locked}
-use Rattle.codes.specs.declared.command.Command.{Command}
 use Rattle.codes.specs.declared.command.Command.the-variants.{Cancel, Unlock}
-use Rattle.codes.specs.declared.numbered.Coded.{Coded}
 use Rattle.codes.specs.Commands.{commandNumber}
 use Rattle.codes.specs.declared.refusal.Refusal.{Refusal}
 use Rattle.codes.specs.declared.refusal.Refusal.the-variants.{AnswerBuffer, WorkBuffer}
@@ -17,7 +15,7 @@ use Rattle.std.specs.declared.option.Option.{Option}
 use Rattle.std.specs.declared.option.Option.the-variants.{Some, None}
 use Rattle.std.specs.declared.result.Result.{Result}
 use Rattle.std.specs.declared.result.Result.the-variants.{Ok, Err}
-use Rattle.machine.specs.Answers.{Said, Step, answer, bytesOf, go, just, tell}
+use Rattle.machine.specs.Answers.{Step, answer, bytesOf, go, just, tell}
 use Rattle.machine.specs.Requests.{started}
 use Rattle.machine.specs.State.{State, Waiting, awaiting}
 use Rattle.machine.specs.Waiting.{onFinger, onSecond}

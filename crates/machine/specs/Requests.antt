@@ -38,7 +38,6 @@ use Rattle.codes.specs.declared.command.Command.the-variants.{
   Lock,
   ChangePassword,
 }
-use Rattle.codes.specs.declared.flag.EnrollFlag.{EnrollFlag}
 use Rattle.codes.specs.declared.numbered.Coded.{Coded}
 use Rattle.codes.specs.declared.numbered.Coded.the-variants.{Known, Unknown}
 use Rattle.codes.specs.declared.parameter.Parameter.{Parameter}
@@ -54,7 +53,7 @@ use Rattle.codes.specs.declared.parameter.Parameter.the-variants.{
   NetworkMode,
 }
 use Rattle.matcher.specs.Levels.{levelNumber}
-use Rattle.memory.specs.Held.{Held, heldAt}
+use Rattle.memory.specs.Held.{heldAt}
 use Rattle.packet.specs.Numbers.{bytes32, le16, passwordSum}
 use Rattle.packet.specs.Requests.{RequestParts}
 use Rattle.search.specs.Ids.{countOf, placeOf}
@@ -69,7 +68,7 @@ use Rattle.machine.specs.Enrollment.{enrollFault, enrollId, enrolled, looksUp}
 use Rattle.machine.specs.Ids.{isId, rangeOf}
 use Rattle.machine.specs.Searches.{anyAgrees, without}
 use Rattle.machine.specs.Settings.{enrollModeNumber, networkNumber, set, settingOf, switchNumber, templatesIn}
-use Rattle.machine.specs.State.{Phase, State, Waiting, awaiting, configured, guarded, holding, locking}
+use Rattle.machine.specs.State.{Phase, State, awaiting, configured, guarded, holding, locking}
 use Rattle.machine.specs.State.Phase.{grantToEnroll, grantToDelete, firstFinger, personToVerify, personToIdentify}
 use Rattle.machine.specs.declared.level.Level.{Level}
 use Rattle.machine.specs.declared.level.Level.the-variants.{

@@ -1,6 +1,6 @@
 -- Who agrees with a scan, at the security level in force.
 use mathlib.Core.List.{List, [], _∷_}
-use mathlib.Core.Bool.{Bool, true, cond}
+use mathlib.Core.Bool.{Bool, cond}
 use Prim.Native.Nat.{ℕ}
 use lib.Dec.{eqb}
 use Rattle.matcher.specs.Levels.{strictnessOf}

@@ -1,7 +1,7 @@
 -- The parameters that can be written: their values, and those of a fresh module.
-use mathlib.Core.List.{List, [], _∷_}
+use mathlib.Core.List.{[], _∷_}
 use mathlib.Core.Bool.{cond}
-use Prim.Native.Nat.{ℕ, _+_, _-_}
+use Prim.Native.Nat.{ℕ, _-_}
 use Rattle.codes.specs.Numbers.{caseOf}
 use Rattle.codes.specs.declared.network.NetworkMode.{NetworkMode}
 use Rattle.codes.specs.declared.network.NetworkMode.the-variants.{Single, Network}
@@ -18,7 +18,6 @@ use Rattle.codes.specs.declared.parameter.Parameter.the-variants.{
   NetworkMode as NetworkModeParameter,
 }
 use Rattle.matcher.specs.Levels.{levelNumber, levels}
-use Rattle.matcher.specs.declared.level.SecurityLevel.{SecurityLevel as Security}
 use Rattle.matcher.specs.declared.level.SecurityLevel.the-variants.{OneIn100k}
 use Rattle.search.specs.Ids.{within}
 use Rattle.std.specs.Options.{mapped}

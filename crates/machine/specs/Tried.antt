@@ -1,6 +1,5 @@
 -- The definitions tried on two recorded runs, of a module over 16 pages of 256 bytes, a matcher of equal bytes, module number 1.
 use mathlib.Core.List.{List, [], _∷_, _++_}
-use mathlib.Core.Path.{_≡_}
 use Prim.Native.Nat.{ℕ, _+_}
 use lib.Chars.{codes}
 use Rattle.codes.specs.Codes.{codeNumber}

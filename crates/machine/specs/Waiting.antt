@@ -1,6 +1,6 @@
 -- Fingers and seconds: what a request waits for and the call that comes decide together.
-use mathlib.Core.List.{List, [], _∷_, _++_}
-use mathlib.Core.Bool.{Bool, true, cond, not, _&&_, _||_}
+use mathlib.Core.List.{List, [], _∷_}
+use mathlib.Core.Bool.{cond, not, _&&_, _||_}
 use Prim.Native.Nat.{ℕ, _-_, max}
 use lib.Dec.{eqb, ltb}
 use lib.ListN.{length}

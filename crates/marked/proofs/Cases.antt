@@ -1,7 +1,7 @@
 -- The worked examples, computed.
 use mathlib.Core.List.{List, [], _∷_}
-use mathlib.Core.Path.{_≡_, refl, ap, _∙_}
-use Prim.Native.Nat.{ℕ, _+_, _-_, _*_, _≤_, _<_, min}
+use mathlib.Core.Path.{_≡_, ap, _∙_}
+use Prim.Native.Nat.{ℕ, _+_, _-_, _≤_, _<_, min}
 use native.Mathlib.Omega.{arith}
 use lib.ListN.{length, take, drop}
 use Rattle.codes.specs.declared.code.Code.the-variants.{Success, InvalidId, FingerLimit}
@@ -16,7 +16,7 @@ use Rattle.codes.specs.declared.flag.EnrollFlag.the-variants.{AddNew}
 use Rattle.search.specs.Ids.{countOf}
 use Rattle.machine.specs.Enrollment.{enrollFault}
 use Rattle.machine.specs.State.{State}
-use Rattle.marked.specs.Marked.{MarkedCases, asksBlock, outcomesOf}
+use Rattle.marked.specs.Marked.{asksBlock, outcomesOf}
 use Rattle.machine.specs.Requests.{list}
 
 -- the last 40 of 490 IDs

@@ -18,7 +18,7 @@ use Rattle.row_memory.specs.Rows.{capacityOf}
 use Rattle.search.specs.Ids.{countOf}
 use Rattle.std.specs.declared.option.Option.the-variants.{Some, None}
 use Rattle.std.specs.shelf.Lists.{map}
-use Rattle.machine.specs.Answers.{Said, Step}
+use Rattle.machine.specs.Answers.{Step}
 use Rattle.machine.specs.Enrollment.{enrollFault}
 use Rattle.machine.specs.Requests.{list}
 use Rattle.machine.specs.Settings.{templatesIn}

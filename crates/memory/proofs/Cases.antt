@@ -10,7 +10,7 @@ use Rattle.std.specs.Holes.{removed}
 use Rattle.std.proofs.shelf.Ways.{tells}
 use Rattle.std.specs.declared.option.Option.the-variants.{Some, None}
 use Rattle.std.specs.declared.result.Result.the-variants.{Ok, Err}
-use Rattle.memory.specs.declared.NotAdded.the-variants.{Malformed, Full}
+use Rattle.memory.specs.declared.NotAdded.the-variants.{Full}
 use Rattle.memory.specs.Held.{Held, heldAt, idAt, copyAnswer, copyAfter, addAnswer, addAfter, removeAfter}
 
 module _ (h : List Held) (place : ℕ) where

@@ -2,12 +2,12 @@
 use mathlib.Core.Path.{_≡_, refl, sym, ap, subst, _∙_}
 use mathlib.Core.List.{List, [], _∷_, _++_}
 use mathlib.Core.Bool.{Bool, true, false, cond}
-use Prim.Native.Nat.{ℕ, _+_, _-_, _*_, _/_, _%_, _^_, _≤_, _<_}
+use Prim.Native.Nat.{ℕ, _+_, _-_, _*_, _/_, _%_, _^_, _<_}
 use native.Mathlib.Omega.{arith}
-use lib.ListN.{length, take, drop, getD}
-use lib.Dec.{eqb, ltb}
-use Rattle.std.proofs.shelf.Tests.{eq-eqb, ne-eqb, le-ltb, lt-ltb}
-use Rattle.std.proofs.shelf.Lists.{append-assoc, append-nil, length-append, length-push, getD-push, take-at, drop-at, getD-at}
+use lib.ListN.{length, drop}
+use lib.Dec.{eqb}
+use Rattle.std.proofs.shelf.Tests.{eq-eqb, le-ltb, lt-ltb}
+use Rattle.std.proofs.shelf.Lists.{append-assoc, append-nil, length-append, length-push, take-at, drop-at, getD-at}
 use Rattle.std.proofs.shelf.Bits.{shr-shr, div-below}
 use Rattle.std.specs.Slices.{found}
 use Rattle.std.specs.declared.option.Option.{Option}
@@ -22,9 +22,7 @@ use Rattle.codes.specs.declared.numbered.Coded.{Coded}
 use Rattle.codes.specs.declared.numbered.Coded.the-variants.{Known}
 use Rattle.codes.specs.declared.refusal.Refusal.{Refusal}
 use Rattle.codes.specs.declared.refusal.Refusal.the-variants.{Terminal}
-use Rattle.codes.specs.Coded.{coded, byteOf}
-use Rattle.codes.specs.Codes.{codeNumber, allCodes}
-use Rattle.codes.specs.Commands.{commandNumber, commands}
+use Rattle.codes.specs.Codes.{codeNumber}
 use Rattle.packet.specs.declared.form.Form.{Form}
 use Rattle.packet.specs.declared.form.Form.the-variants.{Standard, Network}
 use Rattle.packet.specs.declared.form.Head.{Head}
@@ -33,7 +31,7 @@ use Rattle.packet.specs.declared.response.Reply.{Reply}
 use Rattle.packet.specs.Numbers.{checksumOf}
 use Rattle.packet.specs.Heads.{headBytes, readHead, summedBytes}
 use Rattle.packet.specs.Data.{asksWithData, answersWithData, dataBytes, splitData}
-use Rattle.packet.specs.Requests.{RequestParts, isFor, nothingBehind, readRequest, requestOf, requestHead, requestBytes, withData}
+use Rattle.packet.specs.Requests.{RequestParts, nothingBehind, readRequest, requestOf, requestHead, requestBytes, withData}
 use Rattle.codes.proofs.Known.{known-code}
 use Rattle.packet.specs.Responses.{ResponseParts, answered, bytesIn, carries, eitherHead, outcomeBytes, outcomeHead, readResponse, replyBytes, replyForm, responseOf}
 use Rattle.packet.specs.Trips.{AsRead, Belongs, HeardIn, FormFits, Heard, Proper, ReadAs, sent, sentIn}

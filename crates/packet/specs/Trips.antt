@@ -1,6 +1,6 @@
 -- What is written is read again as what it was.
 use mathlib.Core.Path.{_≡_}
-use mathlib.Core.List.{List, [], _∷_, _++_}
+use mathlib.Core.List.{List, [], _∷_}
 use mathlib.Core.Bool.{Bool, true, false}
 use Prim.Native.Nat.{ℕ, _^_, _<_}
 use lib.ListN.{length}
@@ -18,8 +18,8 @@ use Rattle.packet.specs.declared.form.Form.the-variants.{Standard, Network}
 use Rattle.packet.specs.declared.response.Outcome.{Outcome}
 use Rattle.packet.specs.declared.response.Reply.{Reply}
 use Rattle.packet.specs.Data.{asksWithData}
-use Rattle.packet.specs.Requests.{RequestParts, isFor, readRequest, requestBytes}
-use Rattle.packet.specs.Responses.{ResponseParts, answered, carries, outcomeBytes, readResponse, replyForm}
+use Rattle.packet.specs.Requests.{RequestParts, isFor}
+use Rattle.packet.specs.Responses.{ResponseParts, answered, carries, readResponse, replyForm}
 
 -- a command as its byte is read: no byte of a known command is kept as an unknown one
 abbrev pub AsRead : Coded Command → Type 0

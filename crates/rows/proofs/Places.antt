@@ -1,6 +1,6 @@
 -- The steps of a search for a key, and a row that goes behind the others.
-use mathlib.Core.Path.{_≡_, refl, sym, ap, _∙_}
-use mathlib.Core.List.{List, [], _∷_, _++_}
+use mathlib.Core.Path.{_≡_, sym, ap, _∙_}
+use mathlib.Core.List.{List, [], _++_}
 use Prim.Native.Nat.{ℕ, suc, _+_, _-_, _<_, _≤_}
 use native.Mathlib.Numerals.{add-one}
 use borrow.Rule.Slice.PartMut.{putMid}
@@ -9,7 +9,7 @@ use lib.ListN.{length, getD, take, drop}
 use Rattle.std.proofs.shelf.Lists.{drop-more, at-drop-all, drop-all, drop-drop, take-rest, length-drop, append-nil, append-assoc}
 use Rattle.std.proofs.shelf.Tests.{eq-eqb, ne-eqb}
 use Rattle.std.specs.declared.option.Option.the-variants.{Some, None}
-use Rattle.rows.specs.Rows.{placeFrom, placeOf, putLast}
+use Rattle.rows.specs.Rows.{placeFrom, putLast}
 
 module _ {X : Type 0} (keyOf : X → ℕ) (key : ℕ) (xs : List X) (i : ℕ) (x : X) (inside : i < length xs) (is : x ≡ getD xs i x) where
   pub place-yes : keyOf x ≡ key → Some i ≡ placeFrom keyOf key i (drop i xs)

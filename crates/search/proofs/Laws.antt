@@ -6,8 +6,8 @@ use mathlib.Core.Logic.{_⊎_, inl, inr, ⊎-elim, _≢_}
 use Prim.Native.Nat.{ℕ, zero, suc, _+_, _-_, _<_, _≤_}
 use native.Mathlib.Omega.{arith}
 use lib.Dec.{eqb, leb}
-use lib.ListN.{length, getD, take, drop}
-use Rattle.std.proofs.shelf.Lists.{append-nil, append-assoc, getD-at, getD-append-left, length-append, length-push, take-at}
+use lib.ListN.{length}
+use Rattle.std.proofs.shelf.Lists.{append-nil, append-assoc, getD-at, length-append, length-push, take-at}
 use Rattle.std.proofs.shelf.Sums.{sumBy-cons}
 use Rattle.std.proofs.shelf.Tests.{cases-lt, cases-eq, cases-bool, eqb-true, eqb-false, le-leb}
 use Rattle.std.proofs.shelf.Ways.{tells}

@@ -1,6 +1,5 @@
 use borrow.Author.Tests.{ltb-false, ltb-true}
 use native.Mathlib.Omega.{arith}
-use mathlib.Core.Path.{_≡_, sym, _∙_}
 use Prim.Native.Nat.{_≤_}
 use lib.ListN.{length}
 use Rattle.std.proofs.shelf.Lists.{take-rest, length-drop}

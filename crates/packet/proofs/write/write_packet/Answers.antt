@@ -1,8 +1,4 @@
-use borrow.Author.Needs.{needs}
 use native.Mathlib.Omega.{arith}
-use mathlib.Core.Path.{_≡_, ap}
-use Prim.Native.Nat.{_+_}
-use lib.ListN.{length}
 use Rattle.std.proofs.shelf.Lists.{take-rest, length-drop}
 use Rattle.packet.proofs.Writes.{length-packet, length-bare, with-data, without-data}
 use Rattle.packet.proofs.write.write_packet.Needs as need

@@ -1,5 +1,4 @@
 use mathlib.Core.Path.{_≡_}
-use Prim.Native.Nat.{_≤_}
 use lib.ListN.{take, drop, length}
 use Rattle.search.specs.Oldest.{oldest, oldestFrom, passes}
 use Rattle.search.proofs.oldest.search_oldest.Given as given

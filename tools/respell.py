@@ -13,8 +13,16 @@ import re
 
 TOKEN = re.compile(r"[A-Za-z_][A-Za-z0-9_'\-]*")
 DEFINED = re.compile(r"^\s*(?:(?:abbrev|unfoldable|pub)\s+)*(?:(?:record|data)\s+)?([A-Za-z_][A-Za-z0-9_'\-]*)(?:\s+[({].*[)}])?\s*:")
-# would fall together with another name
-OTHERS = {"Proper-said": "SaysProper"}
+# a name that would fall together with another, and names of ghost members, arguments and imports
+OTHERS = {
+    "Proper-said": "SaysProper",
+    "keyOf": "key_of",
+    "numberOf": "number_of",
+    "betterOf": "better_of",
+    "answeredIn": "answered_in",
+    "secondScan": "second_scan",
+    "struckFirst": "struck_first",
+}
 FIELD = re.compile(r"^\s+pub\s+([a-z][A-Za-z0-9_']*(?:-[A-Za-z0-9_']+)+)\s*:")
 
 
@@ -41,7 +49,7 @@ def upper_camel(word):
 
 def renames():
     """The new spelling of each own name that has an older one."""
-    found = {}
+    found = {word: new for word, new in OTHERS.items() if "-" not in word}
     for path in files("crates", ".antt"):
         in_record = False
         for line in read(path).split("\n"):

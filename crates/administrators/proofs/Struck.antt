@@ -3,7 +3,7 @@ use Rattle.std.proofs.Common.{◌≡◌, ℕ, ◌-◌, true, false, List, ◌++�
 use Rattle.std.specs.List.{remove}
 use Rattle.std.proofs.lemmas.List.{length-append, length-drop, take-append-le, take_at}
 use Rattle.std.proofs.lemmas.List.Edits.{length-remove}
-use Rattle.rows.specs.Rows.{place_of, struck_at, struck as struckFirst}
+use Rattle.rows.specs.Rows.{place_of, struck_at, struck as struck_first}
 use Rattle.machine.specs.declared.level.AdminRow.{AdminRow}
 use Rattle.machine.specs.Administrators.{struck}
 use Rattle.administrators.specs.declared.table.Administrators.{Administrators}
@@ -25,8 +25,8 @@ module _ (id : ℕ) (rows : List AdminRow) (single : apart rows ≡ true) where
 
 -- `slice` is what the call leaves of the rows in use
 module _ (t : Administrators) (id : ℕ) (slice : List AdminRow) (n : ℕ) (all : n ≡ t.count)
-    (e : slice ≡ struckFirst (λ r. r.id) id (take n t.rows)) (same : length slice ≡ length (take n t.rows)) where
-  slice_is : slice ≡ struckFirst (λ r. r.id) id (rows_of t)
+    (e : slice ≡ struck_first (λ r. r.id) id (take n t.rows)) (same : length slice ≡ length (take n t.rows)) where
+  slice_is : slice ≡ struck_first (λ r. r.id) id (rows_of t)
   slice_is = rw all at e
 
   slice-length : length slice ≡ t.count

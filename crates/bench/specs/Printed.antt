@@ -8,7 +8,7 @@ use Rattle.codes.specs.declared.refusal.Refusal.{Refusal}
 use Rattle.engine.specs.declared.answer.Answer.{Answer}
 use Rattle.engine.specs.declared.answer.Outcomes.{Outcomes}
 use Rattle.engine.specs.declared.answer.Outcomes.TheVariants.{Nothing, One, Two}
-use Rattle.hex.specs.Digits.{hex_text}
+use Rattle.digits.specs.Digits.{hex_text}
 use Rattle.packet.specs.declared.response.Outcome.{Outcome}
 
 -- an outcome: the byte of its command and that of its code

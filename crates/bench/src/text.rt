@@ -5,7 +5,7 @@ ghost use Rattle.bench.specs.Printed.{answer_text, given_text, outcome_text, out
 
 use codes::{Numbered, Refusal};
 use engine::{Answer, Outcomes};
-use hex::write_hex;
+use digits::write_hex;
 use packet::Outcome;
 use std::alloc::AllocError;
 

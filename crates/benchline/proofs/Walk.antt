@@ -2,9 +2,9 @@
 use Rattle.std.proofs.Common.{◌≡◌, ℕ, ◌-◌, ◌/◌, ◌<◌, ◌≤◌, List, [], ◌∷◌, length, get_or, take, drop, None, Option, Result, sym, refl, ap, ◌∙◌, arith}
 use Rattle.std.proofs.lemmas.List.{take_rest, length-drop}
 use Rattle.std.specs.Result.{result_ok}
-use Rattle.hex.specs.Digits.{Because as DigitsBecause}
-use Rattle.hex.specs.declared.Fault.{Fault as DigitsFault}
-use Rattle.hex.specs.declared.Fault.TheVariants.{NoDigit, Odd, Memory as NoMemory}
+use Rattle.digits.specs.Digits.{Because as DigitsBecause}
+use Rattle.digits.specs.declared.Fault.{Fault as DigitsFault}
+use Rattle.digits.specs.declared.Fault.TheVariants.{NoDigit, Odd, Memory as NoMemory}
 use Rattle.benchline.specs.declared.Fault.{Fault}
 use Rattle.benchline.specs.declared.Fault.TheVariants.{IllFormed, Memory}
 use Rattle.benchline.specs.Lines.{Because, from_digits}

@@ -2,9 +2,9 @@
 use Rattle.std.specs.Prelude.{◌≡◌, ℕ, cond, List, [], ◌∷◌, Some, None, Option, ◌==◌}
 use Rattle.std.specs.Option.{option_map}
 use Rattle.std.specs.Result.{result_ok}
-use Rattle.hex.specs.Digits.{hex_bytes, hex_text}
-use Rattle.hex.specs.declared.Fault.{Fault as DigitsFault}
-use Rattle.hex.specs.declared.Fault.TheVariants.{NoDigit, Odd, Memory as NoMemory}
+use Rattle.digits.specs.Digits.{hex_bytes, hex_text}
+use Rattle.digits.specs.declared.Fault.{Fault as DigitsFault}
+use Rattle.digits.specs.declared.Fault.TheVariants.{NoDigit, Odd, Memory as NoMemory}
 use Rattle.benchline.specs.declared.Fault.{Fault}
 use Rattle.benchline.specs.declared.Fault.TheVariants.{IllFormed, Memory}
 use Rattle.benchline.specs.declared.Line.{Line}

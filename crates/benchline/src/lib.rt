@@ -2,10 +2,10 @@
 
 ghost use Rattle.std.specs.Prelude.{◌≡◌, ◌/◌, ◌<◌, [], ◌∷◌, length, IfOk, IfErr, Some, None, vec_capacity, codes, MatchResult};
 ghost use Rattle.benchline.specs.Lines.{Because, bench_line, blank, bytes_behind, finger, from_digits, line_text, packet, second, seen};
-ghost use Rattle.hex.specs.Digits.{hex_text};
+ghost use Rattle.digits.specs.Digits.{hex_text};
 ghost use Rattle.std.specs.List.{AllByRecursion as All};
 
-use hex::read_hex_into;
+use digits::read_hex_into;
 
 /// What a line asks. Its bytes lie in the buffer that the line was read into.
 #[derive(Clone, Copy)]
@@ -27,13 +27,13 @@ pub enum Fault {
     Memory,
 }
 
-impl From<hex::Fault> for Fault {
+impl From<digits::Fault> for Fault {
     ghost from_gives = { λ of fault. fault ≡ from_digits of };
 
-    fn from(of: hex::Fault) -> Fault {
+    fn from(of: digits::Fault) -> Fault {
         match of {
-            hex::Fault::NoDigit(_) | hex::Fault::Odd => Fault::IllFormed,
-            hex::Fault::Memory => Fault::Memory,
+            digits::Fault::NoDigit(_) | digits::Fault::Odd => Fault::IllFormed,
+            digits::Fault::Memory => Fault::Memory,
         }
     }
 }

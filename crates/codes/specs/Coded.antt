@@ -10,9 +10,9 @@ kept n None = Unknown n
 
 -- what a byte stands for
 abbrev pub coded : {C : Type 0} → (C → ℕ) → List C → ℕ → Coded C
-coded numberOf cases n = kept n (case_of numberOf cases n)
+coded number_of cases n = kept n (case_of number_of cases n)
 
 -- the byte that stands for a case, or that was kept
 abbrev pub byte_of : {C : Type 0} → (C → ℕ) → Coded C → ℕ
-byte_of numberOf (Known c) = numberOf c
-byte_of numberOf (Unknown n) = n
+byte_of number_of (Known c) = number_of c
+byte_of number_of (Unknown n) = n

@@ -44,7 +44,7 @@ pub enum Code {
 }
 
 impl Numbered for Code {
-    ghost numberOf = { code_number };
+    ghost number_of = { code_number };
 
     ghost cases = { all_codes };
 

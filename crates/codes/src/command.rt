@@ -71,7 +71,7 @@ impl Command {
 }
 
 impl Numbered for Command {
-    ghost numberOf = { command_number };
+    ghost number_of = { command_number };
 
     ghost cases = { commands };
 

@@ -35,7 +35,7 @@ impl EnrollFlag {
 }
 
 impl Numbered for EnrollFlag {
-    ghost numberOf = { flag_number };
+    ghost number_of = { flag_number };
 
     ghost cases = { flags };
 

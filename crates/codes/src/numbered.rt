@@ -5,21 +5,21 @@ ghost use Rattle.codes.specs.Coded.{coded, byte_of};
 /// An enum whose cases have numbers of one byte.
 pub trait Numbered: Copy {
     /// The number of a case.
-    ghost numberOf: { Self → ℕ };
+    ghost number_of: { Self → ℕ };
 
     /// All cases.
     ghost cases: { List Self };
 
     /// The number of this case.
     fn number(self) -> u8
-        ensures { result ≡ numberOf self };
+        ensures { result ≡ number_of self };
 
     /// The case that has the number `byte`.
     fn numbered(byte: u8) -> Option<Self>
-        ensures { result ≡ case_of numberOf cases byte };
+        ensures { result ≡ case_of number_of cases byte };
 
     /// No case is left out, and no two have one number.
-    ghost apart: { (c : Self) → case_of numberOf cases (numberOf c) ≡ Some c };
+    ghost apart: { (c : Self) → case_of number_of cases (number_of c) ≡ Some c };
 }
 
 /// What a byte stands for: a case of `C`, or none, and then it is kept as it was read.
@@ -32,8 +32,8 @@ pub enum Coded<C> {
 impl<C: Numbered> Coded<C> {
     /// What `byte` stands for.
     pub fn of(byte: u8) -> Coded<C>
-        ensures value { result ≡ coded C.Numbered.numberOf C.Numbered.cases byte }
-        ensures back { byte_of C.Numbered.numberOf result ≡ byte }
+        ensures value { result ≡ coded C.Numbered.number_of C.Numbered.cases byte }
+        ensures back { byte_of C.Numbered.number_of result ≡ byte }
     {
         match C::numbered(byte) {
             Some(c) => Coded::Known(c),
@@ -43,7 +43,7 @@ impl<C: Numbered> Coded<C> {
 
     /// The byte that stands for this.
     pub fn byte(self) -> u8
-        ensures { result ≡ byte_of C.Numbered.numberOf self }
+        ensures { result ≡ byte_of C.Numbered.number_of self }
     {
         match self {
             Coded::Known(c) => c.number(),

@@ -47,7 +47,7 @@ impl Parameter {
 }
 
 impl Numbered for Parameter {
-    ghost numberOf = { parameter_number };
+    ghost number_of = { parameter_number };
 
     ghost cases = { parameters };
 

@@ -18,7 +18,7 @@ use Rattle.promises.proofs.Refused.{answers-clear, refusals-leave}
 use Rattle.promises.proofs.Sent.{said-proper}
 use Rattle.promises.proofs.Ways.{never}
 use Rattle.promises.specs.Calls.{Keeps}
-use Rattle.promises.specs.Runs.{answered as answeredIn}
+use Rattle.promises.specs.Runs.{answered as answered_in}
 use Rattle.std.specs.List.{AllByRecursion as All}
 use Rattle.std.proofs.lemmas.Bool.{le-ltb, lt-ltb}
 
@@ -60,7 +60,7 @@ module _ (v : State) (c : Call) (w : State) (s : step_of v c ≡ on_event v c.ev
       })
 
 -- an answer is a step, a refusal the machine's
-step-refused : (r : Result Step Refusal) (e : Refusal) → answeredIn r ≡ Err e → r ≡ Err e
+step-refused : (r : Result Step Refusal) (e : Refusal) → answered_in r ≡ Err e → r ≡ Err e
 step-refused (Ok x) e p = absurd (let z : ◌≡◌ {A = ℕ} 0 1 = cc in omega arith)
 step-refused (Err f) e p = cc
 
@@ -68,7 +68,7 @@ record Stepped (r : Result Step Refusal) : Type 0 where
   step : Step
   is : r ≡ Ok step
 
-step-taken : (r : Result Step Refusal) (a : Result Answer Refusal) → seen a ≡ answeredIn r → is_ok a ≡ true → Stepped r
+step-taken : (r : Result Step Refusal) (a : Result Answer Refusal) → seen a ≡ answered_in r → is_ok a ≡ true → Stepped r
 step-taken (Ok x) a p q = record { step = x; is = refl }
 step-taken (Err e) (Ok a) p q = absurd (let z : ◌≡◌ {A = ℕ} 0 1 = cc in omega arith)
 step-taken (Err e) (Err f) p q = never q

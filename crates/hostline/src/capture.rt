@@ -2,7 +2,7 @@ use crate::options::Hearing;
 use crate::report::Report;
 use anyhow::anyhow;
 use codes::Refusal;
-use hex::{Fault, read_hex};
+use digits::{Fault, read_hex};
 use packet::{Request, read_request, write_request};
 use std::alloc::{AllocError, Global};
 use std::io::Write;

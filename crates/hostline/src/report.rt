@@ -1,6 +1,6 @@
 use crate::capture::Capture;
 use codes::{Coded, Command, EnrollFlag, Numbered, Parameter, Refusal};
-use hex::Fault;
+use digits::Fault;
 use packet::{Form, Request};
 use std::io::Write;
 use std::{fmt, io};

@@ -5,8 +5,8 @@ use Rattle.codes.specs.Coded.{byte_of}
 use Rattle.codes.specs.Commands.{command_number}
 use Rattle.codes.specs.Refusals.{refusal_number}
 use Rattle.codes.specs.declared.refusal.Refusal.{Refusal}
-use Rattle.hex.specs.Digits.{hex_bytes, hex_text}
-use Rattle.hex.specs.declared.Fault.{Fault}
+use Rattle.digits.specs.Digits.{hex_bytes, hex_text}
+use Rattle.digits.specs.declared.Fault.{Fault}
 use Rattle.std.specs.Str.{bytes_eq}
 use Rattle.machine.specs.Answers.{Said, Step, bytes_of}
 use Rattle.machine.specs.Machine.{Event, next_of, on_event}

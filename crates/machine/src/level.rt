@@ -30,7 +30,7 @@ impl AdminRow {
 }
 
 impl Keyed for AdminRow {
-    ghost keyOf = { λ r. r.id };
+    ghost key_of = { λ r. r.id };
 
     fn key(&self) -> u16 {
         self.id

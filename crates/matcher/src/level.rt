@@ -41,7 +41,7 @@ pub enum SecurityLevel {
 }
 
 impl Numbered for SecurityLevel {
-    ghost numberOf = { level_number };
+    ghost number_of = { level_number };
 
     ghost cases = { levels };
 

@@ -20,8 +20,8 @@ use Rattle.codes.specs.Numbers.{among}
 
 -- whether what was read is one of some cases
 abbrev pub known_among : {C : Type 0} → (C → ℕ) → List C → Coded C → Bool
-known_among numberOf cs (Known c) = among numberOf cs c
-known_among numberOf cs (Unknown n) = false
+known_among number_of cs (Known c) = among number_of cs c
+known_among number_of cs (Unknown n) = false
 
 -- the requests that carry data
 abbrev pub asks_with_data : Coded Command → Bool

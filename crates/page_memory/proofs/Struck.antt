@@ -14,19 +14,19 @@ use Rattle.page_memory.specs.Contents.{bytes_of, room_of}
 use Rattle.page_memory.specs.Listed.{enough}
 
 -- the first row with the key is the one at a place before which no row has it
-module _ {X : Type 0} (keyOf : X → ℕ) (xs : List X) (at : ℕ) (d : X) (inside : at < length xs)
-    (first : (k : ℕ) → k < at → keyOf (get_or xs k d) ≡ keyOf (get_or xs at d) → ⊥) where
-  passed : (i : ℕ) → i ≤ at → place_from keyOf (keyOf (get_or xs at d)) i (drop i xs) ≡ place_of keyOf (keyOf (get_or xs at d)) xs
+module _ {X : Type 0} (key_of : X → ℕ) (xs : List X) (at : ℕ) (d : X) (inside : at < length xs)
+    (first : (k : ℕ) → k < at → key_of (get_or xs k d) ≡ key_of (get_or xs at d) → ⊥) where
+  passed : (i : ℕ) → i ≤ at → place_from key_of (key_of (get_or xs at d)) i (drop i xs) ≡ place_of key_of (key_of (get_or xs at d)) xs
   passed zero l = refl
   passed (suc i) l =
       let here : i < length xs = omega arith in
-      rw add-one at (place-no keyOf (keyOf (get_or xs at d)) xs i (get_or xs i d) here (get_or_default xs i d (get_or xs i d) here) (first i (omega arith)))
+      rw add-one at (place-no key_of (key_of (get_or xs at d)) xs i (get_or xs i d) here (get_or_default xs i d (get_or xs i d) here) (first i (omega arith)))
       ∙ passed i (omega arith)
 
-  pub found_at : place_of keyOf (keyOf (get_or xs at d)) xs ≡ Some at
+  pub found_at : place_of key_of (key_of (get_or xs at d)) xs ≡ Some at
   found_at =
       sym (passed at (omega arith))
-      ∙ sym (place-yes keyOf (keyOf (get_or xs at d)) xs at (get_or xs at d) inside (get_or_default xs at d (get_or xs at d) inside) refl)
+      ∙ sym (place-yes key_of (key_of (get_or xs at d)) xs at (get_or xs at d) inside (get_or_default xs at d (get_or xs at d) inside) refl)
 
 pub map-removed : {X Y : Type 0} (f : X → Y) (xs : List X) (at : ℕ) → map f (remove xs at) ≡ remove (map f xs) at
 map-removed f xs at = map-append f (take at xs) (drop (suc at) xs) ∙ rw (take-map, drop-map)

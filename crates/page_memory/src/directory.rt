@@ -14,7 +14,7 @@ pub(crate) struct Record {
 }
 
 impl Keyed for Record {
-    ghost keyOf = { λ r. r.page };
+    ghost key_of = { λ r. r.page };
 
     fn key(&self) -> u16 {
         self.page

@@ -3,7 +3,7 @@ ghost use Rattle.device.specs.View.{view, went};
 ghost use Rattle.machine.specs.Enrollment.{enrolled};
 ghost use Rattle.machine.specs.State.{Waiting, command_of, enroll_command};
 ghost use Rattle.machine.specs.State.Phase.{first_finger, second_finger};
-ghost use Rattle.machine.specs.Waiting.{better as betterOf, done, first, goes_on, pressed, second};
+ghost use Rattle.machine.specs.Waiting.{better as better_of, done, first, goes_on, pressed, second};
 ghost use Rattle.phases.specs.Told.{waiting_for};
 
 use crate::grants::enroll_command;
@@ -151,7 +151,7 @@ fn enroll_better<M: Matcher, S: Memory>(
     ensures { (w : Waiting) → w.form ≡ device.old.form → command_of w.phase ≡ enroll_command enrollment.by
         → went (view M.Matcher S.Memory device.new) result
         ≡ done (view M.Matcher S.Memory device.old) w enrollment
-        (betterOf (take S.Memory.size device.old.first.bytes) device.old.first.quality
+        (better_of (take S.Memory.size device.old.first.bytes) device.old.first.quality
         scan.entry.bytes.now scan.entry.quality ∷ [])
         (max device.old.first.quality scan.entry.quality) }
 {

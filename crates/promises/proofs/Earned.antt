@@ -57,7 +57,7 @@ use Rattle.machine.specs.State.Phase.{
   person_to_identify,
   person_to_delete,
 }
-use Rattle.machine.specs.Waiting.{better, deleted, ended, first, goes_on, granted, identified, on_finger, on_second, pressed, scanned, second as secondScan, verified}
+use Rattle.machine.specs.Waiting.{better, deleted, ended, first, goes_on, granted, identified, on_finger, on_second, pressed, scanned, second as second_scan, verified}
 use Rattle.machine.specs.declared.enrollment.Enroller.{Enroller}
 use Rattle.machine.specs.declared.enrollment.Enroller.TheVariants.{Host, Administrator}
 use Rattle.machine.specs.declared.enrollment.Enrollment.{Enrollment}
@@ -205,7 +205,7 @@ module _ (s : State) (w : Waiting) (x : List ℕ) (quality : ℕ) where
   on-first e Twice = goes _ [] tt
   on-first e TwoTemplates = goes _ [] tt
 
-  on-second-scan : (e : Enrollment) (m : EnrollMode) (one : List ℕ) (q1 : ℕ) → F (secondScan s w e m one q1 x quality)
+  on-second-scan : (e : Enrollment) (m : EnrollMode) (one : List ℕ) (q1 : ℕ) → F (second_scan s w e m one q1 x quality)
   on-second-scan e Once one q1 = ends (enrolled s e (better one q1 x quality ∷ [])) e.id (max q1 quality) Success (tt, tt) refl
   on-second-scan e Twice one q1 = ends (enrolled s e (better one q1 x quality ∷ [])) e.id (max q1 quality) Success (tt, tt) refl
   on-second-scan e TwoTemplates one q1 = ends (enrolled s e (one ∷ x ∷ [])) e.id (max q1 quality) Success (tt, tt) refl

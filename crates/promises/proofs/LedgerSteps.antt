@@ -85,7 +85,7 @@ use Rattle.machine.specs.Waiting.{
   on_second,
   pressed,
   scanned,
-  second as secondScan,
+  second as second_scan,
   verified,
 }
 use Rattle.machine.specs.declared.enrollment.Enroller.{Enroller}
@@ -173,7 +173,7 @@ module _ (own n : ℕ) (w : Owner) (ts : List Told) (s : State) (x : Waiting) (l
         on-moved s.settings.scans s (record { form = x.form; phase = second_finger e scan quality; left = s.settings.timeout })
         (record { command = sym c; detail = d; kept = sym h })
 
-    on-second-scan : (m : EnrollMode) (one : List ℕ) (q1 : ℕ) (two : List ℕ) (q2 : ℕ) → Pressed (secondScan s x e m one q1 two q2)
+    on-second-scan : (m : EnrollMode) (one : List ℕ) (q1 : ℕ) (two : List ℕ) (q2 : ℕ) → Pressed (second_scan s x e m one q1 two q2)
     on-second-scan Once one q1 two q2 = on-done (better one q1 two q2 ∷ []) (max q1 q2)
     on-second-scan Twice one q1 two q2 = on-done (better one q1 two q2 ∷ []) (max q1 q2)
     on-second-scan TwoTemplates one q1 two q2 = on-done (one ∷ two ∷ []) (max q1 q2)

@@ -204,13 +204,13 @@ level-pushed-kept id i n level [] = ap (λ v. cond v (Some level) None) n
 level-pushed-kept id i n level (r ∷ rows) = ap (λ v. cond (eqb r.id i) (Some r.level) v) (level-pushed-kept id i n level rows)
 
 -- the number that a case was found for is its own
-pub case-number : {C : Type 0} (numberOf : C → ℕ) (cs : List C) (n : ℕ) (c : C) → case_of numberOf cs n ≡ Some c → n ≡ numberOf c
-case-number numberOf [] n c e = absurd (let z : ◌≡◌ {A = ℕ} 0 1 = cc in omega arith)
-case-number numberOf (d ∷ ds) n c e = at (eqb n (numberOf d)) refl e (case-number numberOf ds n c)
+pub case-number : {C : Type 0} (number_of : C → ℕ) (cs : List C) (n : ℕ) (c : C) → case_of number_of cs n ≡ Some c → n ≡ number_of c
+case-number number_of [] n c e = absurd (let z : ◌≡◌ {A = ℕ} 0 1 = cc in omega arith)
+case-number number_of (d ∷ ds) n c e = at (eqb n (number_of d)) refl e (case-number number_of ds n c)
   where
-    at : (b : Bool) → eqb n (numberOf d) ≡ b → cond b (Some d) (case_of numberOf ds n) ≡ Some c
-        → (case_of numberOf ds n ≡ Some c → n ≡ numberOf c) → n ≡ numberOf c
-    at true q e f = let z : d ≡ c = cc in is-it n (numberOf d) q ∙ ap numberOf z
+    at : (b : Bool) → eqb n (number_of d) ≡ b → cond b (Some d) (case_of number_of ds n) ≡ Some c
+        → (case_of number_of ds n ≡ Some c → n ≡ number_of c) → n ≡ number_of c
+    at true q e f = let z : d ≡ c = cc in is-it n (number_of d) q ∙ ap number_of z
     at false q e f = f e
 
 -- who is found is one of those allowed

@@ -80,7 +80,7 @@ use Rattle.machine.specs.State.Phase.{
   person_to_identify,
   person_to_delete,
 }
-use Rattle.machine.specs.Waiting.{deleted, first, granted, identified, on_finger, on_second, pressed, scanned, second as secondScan, verified}
+use Rattle.machine.specs.Waiting.{deleted, first, granted, identified, on_finger, on_second, pressed, scanned, second as second_scan, verified}
 use Rattle.machine.specs.declared.enrollment.Enroller.{Enroller}
 use Rattle.machine.specs.declared.enrollment.Enroller.TheVariants.{Host, Administrator}
 use Rattle.machine.specs.declared.enrollment.Enrollment.{Enrollment}
@@ -147,7 +147,7 @@ module _ (s : State) (w : Waiting) (scan : List ℕ) (quality : ℕ) where
   on-first e Twice = goes _
   on-first e TwoTemplates = goes _
 
-  on-second-scan : (e : Enrollment) (m : EnrollMode) (one : List ℕ) (q1 : ℕ) → Proper (secondScan s w e m one q1 scan quality)
+  on-second-scan : (e : Enrollment) (m : EnrollMode) (one : List ℕ) (q1 : ℕ) → Proper (second_scan s w e m one q1 scan quality)
   on-second-scan e Once one q1 = ends _ e.id (max q1 quality) Success
   on-second-scan e Twice one q1 = ends _ e.id (max q1 quality) Success
   on-second-scan e TwoTemplates one q1 = ends _ e.id (max q1 quality) Success

@@ -52,7 +52,7 @@ use Rattle.machine.specs.State.Phase.{
   person_to_identify,
   person_to_delete,
 }
-use Rattle.machine.specs.Waiting.{deleted, first, granted, identified, on_finger, on_second, pressed, second as secondScan, verified}
+use Rattle.machine.specs.Waiting.{deleted, first, granted, identified, on_finger, on_second, pressed, second as second_scan, verified}
 use Rattle.machine.specs.declared.enrollment.Enroller.{Enroller}
 use Rattle.machine.specs.declared.enrollment.Enroller.TheVariants.{Host, Administrator}
 use Rattle.machine.specs.declared.enrollment.Enrollment.{Enrollment}
@@ -154,7 +154,7 @@ module _ (s : State) (u : s.locked ≡ true → ⊥) where
     on-first e Twice scan quality = calm _ refl
     on-first e TwoTemplates scan quality = calm _ refl
 
-    on-second-scan : (e : Enrollment) (m : EnrollMode) (one : List ℕ) (q1 : ℕ) (two : List ℕ) (q2 : ℕ) → SoundAfter (secondScan s w e m one q1 two q2)
+    on-second-scan : (e : Enrollment) (m : EnrollMode) (one : List ℕ) (q1 : ℕ) (two : List ℕ) (q2 : ℕ) → SoundAfter (second_scan s w e m one q1 two q2)
     on-second-scan e Once one q1 two q2 = calm _ refl
     on-second-scan e Twice one q1 two q2 = calm _ refl
     on-second-scan e TwoTemplates one q1 two q2 = calm _ refl

@@ -89,7 +89,7 @@ use Rattle.machine.specs.Waiting.{
   on_second,
   pressed,
   scanned,
-  second as secondScan,
+  second as second_scan,
   verified,
 }
 use Rattle.machine.specs.declared.enrollment.Enroller.{Enroller}
@@ -412,7 +412,7 @@ module _ (own n : ℕ) (v : Owner) (ts : List Told) (s : State) (k : Kept ts s) 
     on-first Twice z = goes (second_finger e scan quality) r
     on-first TwoTemplates z = goes (second_finger e scan quality) r
 
-    on-second-scan : (m : EnrollMode) → s.settings.enroll ≡ m → (one : List ℕ) (q1 : ℕ) → A (secondScan s w e m one q1 scan quality)
+    on-second-scan : (m : EnrollMode) → s.settings.enroll ≡ m → (one : List ℕ) (q1 : ℕ) → A (second_scan s w e m one q1 scan quality)
     on-second-scan Once z one q1 = on-done (better one q1 scan quality) [] (max q1 quality) (ap templates_in z)
     on-second-scan Twice z one q1 = on-done (better one q1 scan quality) [] (max q1 quality) (ap templates_in z)
     on-second-scan TwoTemplates z one q1 = on-done one (scan ∷ []) (max q1 quality) (ap templates_in z)

@@ -5,15 +5,15 @@ use Rattle.std.proofs.lemmas.List.{drop_more, at_drop_all, drop_all, drop-drop, 
 use Rattle.std.proofs.lemmas.Bool.{eq-eqb, ne_eqb}
 use Rattle.rows.specs.Rows.{place_from, put_last}
 
-module _ {X : Type 0} (keyOf : X → ℕ) (key : ℕ) (xs : List X) (i : ℕ) (x : X) (inside : i < length xs) (is : x ≡ get_or xs i x) where
-  pub place-yes : keyOf x ≡ key → Some i ≡ place_from keyOf key i (drop i xs)
-  place-yes e = let d = drop_more xs i x inside in let t = eq-eqb (keyOf x) key e in rw (d, ← is, t)
+module _ {X : Type 0} (key_of : X → ℕ) (key : ℕ) (xs : List X) (i : ℕ) (x : X) (inside : i < length xs) (is : x ≡ get_or xs i x) where
+  pub place-yes : key_of x ≡ key → Some i ≡ place_from key_of key i (drop i xs)
+  place-yes e = let d = drop_more xs i x inside in let t = eq-eqb (key_of x) key e in rw (d, ← is, t)
 
-  pub place-no : (keyOf x ≡ key → ⊥) → place_from keyOf key (i + 1) (drop (i + 1) xs) ≡ place_from keyOf key i (drop i xs)
-  place-no e = let d = drop_more xs i x inside in let t = ne_eqb (keyOf x) key e in rw (d, ← is, t)
+  pub place-no : (key_of x ≡ key → ⊥) → place_from key_of key (i + 1) (drop (i + 1) xs) ≡ place_from key_of key i (drop i xs)
+  place-no e = let d = drop_more xs i x inside in let t = ne_eqb (key_of x) key e in rw (d, ← is, t)
 
-pub place_end : {X : Type 0} (keyOf : X → ℕ) (key : ℕ) (xs : List X) (i : ℕ) → length xs ≤ i → None ≡ place_from keyOf key i (drop i xs)
-place_end keyOf key xs i le = sym (at_drop_all (place_from keyOf key i) xs i le)
+pub place_end : {X : Type 0} (key_of : X → ℕ) (key : ℕ) (xs : List X) (i : ℕ) → length xs ≤ i → None ≡ place_from key_of key i (drop i xs)
+place_end key_of key xs i le = sym (at_drop_all (place_from key_of key i) xs i le)
 
 -- the rows from a place on, turned by one
 pub turned : {X : Type 0} (xs w : List X) (at : ℕ)

@@ -3,11 +3,11 @@ use Rattle.std.specs.List.{remove}
 
 -- the place of the first row with the key, counted from a place on
 abbrev pub place_from : {X : Type 0} → (X → ℕ) → ℕ → ℕ → List X → Option ℕ
-place_from keyOf key at [] = None
-place_from keyOf key at (x ∷ xs) = cond (keyOf x == key) (Some at) (place_from keyOf key (at + 1) xs)
+place_from key_of key at [] = None
+place_from key_of key at (x ∷ xs) = cond (key_of x == key) (Some at) (place_from key_of key (at + 1) xs)
 
 abbrev pub place_of : {X : Type 0} → (X → ℕ) → ℕ → List X → Option ℕ
-place_of keyOf key xs = place_from keyOf key 0 xs
+place_of key_of key xs = place_from key_of key 0 xs
 
 -- the row at a place goes behind the others, which keep their order
 abbrev pub put_last : {X : Type 0} → List X → ℕ → List X
@@ -19,4 +19,4 @@ struck_at xs (Some at) = put_last xs at
 
 -- the first row with the key is struck
 abbrev pub struck : {X : Type 0} → (X → ℕ) → ℕ → List X → List X
-struck keyOf key xs = struck_at xs (place_of keyOf key xs)
+struck key_of key xs = struck_at xs (place_of key_of key xs)

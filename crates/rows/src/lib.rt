@@ -5,15 +5,15 @@ ghost use Rattle.rows.specs.Rows.{place_of, struck};
 
 /// A row with a key.
 pub trait Keyed {
-    ghost keyOf: { Self → ℕ };
+    ghost key_of: { Self → ℕ };
 
     fn key(&self) -> u16
-        ensures { result ≡ keyOf self.now };
+        ensures { result ≡ key_of self.now };
 }
 
 /// The place of the first row that has the key.
 pub fn find<R: Keyed>(rows: &[R], key: u16) -> Option<usize>
-    ensures value { result ≡ place_of R.Keyed.keyOf key rows.now }
+    ensures value { result ≡ place_of R.Keyed.key_of key rows.now }
     ensures within { IfSome result (λ at. at < length rows.now) }
 {
     for (at, row) in rows.iter().enumerate() {
@@ -26,8 +26,8 @@ pub fn find<R: Keyed>(rows: &[R], key: u16) -> Option<usize>
 
 /// Strikes the first row that has the key: it goes behind the others, which keep their order. Says whether there was one.
 pub fn strike<R: Keyed>(rows: &mut [R], key: u16) -> bool
-    ensures value { result ≡ is_some (place_of R.Keyed.keyOf key rows.old) }
-    ensures after { rows.new ≡ struck R.Keyed.keyOf key rows.old }
+    ensures value { result ≡ is_some (place_of R.Keyed.key_of key rows.old) }
+    ensures after { rows.new ≡ struck R.Keyed.key_of key rows.old }
 {
     match find(rows, key) {
         Some(at) => {

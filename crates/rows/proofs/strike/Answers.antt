@@ -8,6 +8,6 @@ returns-in-Some g c =
     let at = c.in-Some.ensures.value in
     record {
       value = ap is_some at;
-      after = turned c.args.rows.now c.rotate-left.new.self c.in-Some.at c.rotate-left.ensures.after
+      after = turned c.args.rows.now c.rotate_left.new.self c.in-Some.at c.rotate_left.ensures.after
           ∙ ap (struck_at c.args.rows.now) at;
     }

@@ -6,7 +6,7 @@ use Rattle.bench.proofs.text.write_given.Goals as goal
 pub returns-in-Ok : goal.returns-in-Ok
 returns-in-Ok c =
     let answer = c.in-Ok.answer in
-    rewritten c.write-answer.result (vec_items c.args.text.now) _ (given_text c.args.given c.args.out.now) _
+    rewritten c.write_answer.result (vec_items c.args.text.now) _ (given_text c.args.given c.args.out.now) _
     (ap (λ g. given_text g c.args.out.now) c.in-Ok.is
     ∙ ap (answer_text answer.outcomes) (taken answer.count _ c.args.out.now c.min-count.ensures))
-    c.write-answer.ensures
+    c.write_answer.ensures

@@ -11,7 +11,7 @@ loop-other-smaller-then-other-id g c =
 pub loop-other-preserved-then-other-id : goal.loop-other-preserved-then-other-id
 loop-other-preserved-then-other-id g c =
     let k = taken c.args.id _ _ c.loop-other.place c.in-Some.other c.loop-other.invariant.0 c.in-Some.ensures c.if-other-id.true _ c.remove.ensures.after in
-    (k.0, c.remove.ensures.room-same ∙ c.loop-other.invariant.1)
+    (k.0, c.remove.ensures.room_same ∙ c.loop-other.invariant.1)
 
 pub loop-other-preserved : goal.loop-other-preserved
 loop-other-preserved g c =
@@ -20,6 +20,6 @@ loop-other-preserved g c =
 pub returns : goal.returns
 returns g c =
     record {
-      after = all-cleared c.args.id _ _ c.loop-other.place c.loop-other.invariant.0 (sym c.in-default.is ∙ c.id-at.ensures);
-      room-same = c.loop-other.invariant.1;
+      after = all-cleared c.args.id _ _ c.loop-other.place c.loop-other.invariant.0 (sym c.in_default.is ∙ c.id_at.ensures);
+      room_same = c.loop-other.invariant.1;
     }

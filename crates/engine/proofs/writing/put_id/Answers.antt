@@ -10,4 +10,4 @@ put at n out w bs e same = rw (e, same, drop-drop)
 pub returns : goal.returns
 returns c =
     put c.args.at _ c.args.out.now _ (bytes32 c.args.id) (omega arith)
-    (c.copy-from-slice.ensures.after ∙ c.to-le-bytes.ensures ∙ ap bytes32 c.from.ensures)
+    (c.copy_from_slice.ensures.after ∙ c.to_le_bytes.ensures ∙ ap bytes32 c.from.ensures)

@@ -6,8 +6,8 @@ use Rattle.packet.specs.Responses.{bytes_in, reply_form}
 use Rattle.std.proofs.lemmas.List.{append-nil, take_rest, length-drop}
 use Rattle.engine.proofs.writing.write_around.Goals as goal
 
-pub write-data-length-requires : goal.write-data-length-requires
-write-data-length-requires g c =
+pub write_data-length-requires : goal.write_data-length-requires
+write_data-length-requires g c =
     let m = c.args.memory.now in
     let law = g.met.S.Memory in
     let few = short-data g.S.Memory.size (g.S.Memory.room m) (g.S.Memory.held m) c.args.data law.sized.1 (law.within m).0 (law.within m).1 (law.sound m) in
@@ -25,9 +25,9 @@ returns-in-Some g c =
     let bs = data_in (g.S.Memory.held m) c.args.data in
     let few = short-data g.S.Memory.size (g.S.Memory.room m) (g.S.Memory.held m) c.args.data law.sized.1 (law.within m).0 (law.within m).1 (law.sound m) in
     let p = place own y.to y.outcome c.in-Some.at c.in-Some.ensures in
-    let k = around own y.to y.outcome c.in-Some.at p c.args.out.now c.write-data-length.new.out bs c.write-data-length.result
-    (omega (arith, few, p.low, c.requires)) c.write-data-length.ensures.count c.write-data-length.ensures.bytes _ _ _
-    c.write-reply-around.ensures.count c.write-reply-around.ensures.bytes c.unwrap-or.ensures in
+    let k = around own y.to y.outcome c.in-Some.at p c.args.out.now c.write_data-length.new.out bs c.write_data-length.result
+    (omega (arith, few, p.low, c.requires)) c.write_data-length.ensures.count c.write_data-length.ensures.bytes _ _ _
+    c.write_reply_around.ensures.count c.write_reply_around.ensures.bytes c.unwrap_or.ensures in
     wrote own _ (bytes_in (reply_form own y.to) y.outcome bs) c.args.out.now _ _ (omega arith) (record { param_fits = omega arith; size_fits = omega arith }, tt)
     (append-nil _) k.0 k.1
 
@@ -40,6 +40,6 @@ returns-in-None g c =
     let full = bytes_in (reply_form own y.to) y.outcome bs in
     let e = bare own y.to y.outcome [] bs c.in-None.ensures in
     let short : length full ≤ length out = omega (arith, ap length e, short-reply (reply_form own y.to) y.outcome [], c.requires) in
-    let k = settled full out _ _ _ (c.write-reply-around-in-None.ensures.count ∙ ap (λ x. written_count x out) e)
-    (c.write-reply-around-in-None.ensures.bytes ∙ ap (λ x. written x out) e) short c.unwrap-or-in-None.ensures in
+    let k = settled full out _ _ _ (c.write_reply_around-in-None.ensures.count ∙ ap (λ x. written_count x out) e)
+    (c.write_reply_around-in-None.ensures.bytes ∙ ap (λ x. written x out) e) short c.unwrap_or-in-None.ensures in
     wrote own _ full out _ _ (omega arith) (record { param_fits = omega arith; size_fits = omega arith }, tt) (append-nil full) k.0 k.1

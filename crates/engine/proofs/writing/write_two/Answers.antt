@@ -14,9 +14,9 @@ returns c =
     let bs = bytes_in (reply_form own one.to) one.outcome [] in
     let cs = bytes_in (reply_form own two.to) two.outcome [] in
     let e = ap (λ x. bytes_in (reply_form own one.to) one.outcome x ++ reply_bytes own two) c.requires.1 ∙ ap (λ x. bs ++ bytes_in (reply_form own two.to) two.outcome x) c.requires.2 in
-    let k = settled (bs ++ cs) out _ _ _ (c.write-replies.ensures.count ∙ ap (λ x. written_count x out) e) (c.write-replies.ensures.bytes ∙ ap (λ x. written x out) e)
+    let k = settled (bs ++ cs) out _ _ _ (c.write_replies.ensures.count ∙ ap (λ x. written_count x out) e) (c.write_replies.ensures.bytes ∙ ap (λ x. written x out) e)
     (omega (arith, length-append bs cs, short-reply (reply_form own one.to) one.outcome [], short-reply (reply_form own two.to) two.outcome []))
-    c.unwrap-or.ensures in
+    c.unwrap_or.ensures in
     wrote own _ (bs ++ cs) out _ _ (omega arith)
     (record { param_fits = omega arith; size_fits = omega arith }, (record { param_fits = omega arith; size_fits = omega arith }, tt))
     (ap (λ x. bs ++ x) (append-nil cs)) k.0 k.1

@@ -9,6 +9,6 @@ returns-then-out-n-2 c =
 
 pub returns : goal.returns
 returns c =
-    let r = room-around c.args.head c.args.carries c.args.out.now c.write-head-2.new.out c.args.length
-    (c.write-head-2.result + c.args.length) c.if-not-carries.false (omega arith) (omega arith) c.write-head-2.ensures.bytes in
+    let r = room-around c.args.head c.args.carries c.args.out.now c.write_head-2.new.out c.args.length
+    (c.write_head-2.result + c.args.length) c.if-not-carries.false (omega arith) (omega arith) c.write_head-2.ensures.bytes in
     record { count = r.0; bytes = r.1 }

@@ -8,7 +8,7 @@ use Rattle.packet.proofs.request.write_request.Goals as goal
 pub returns : goal.returns
 returns c =
     let q = request_parts c.args.request in
-    let r = room (packet_bytes (request_head q) c.asks-with-data-carries.result q.«data») _ c.args.out.now c.write-packet.new.out c.write-packet.result
-    (ap (λ b. packet_bytes (request_head q) b q.«data») c.asks-with-data-carries.ensures)
-    (omega arith) c.write-packet.ensures.count c.write-packet.ensures.bytes in
+    let r = room (packet_bytes (request_head q) c.asks_with_data-carries.result q.«data») _ c.args.out.now c.write_packet.new.out c.write_packet.result
+    (ap (λ b. packet_bytes (request_head q) b q.«data») c.asks_with_data-carries.ensures)
+    (omega arith) c.write_packet.ensures.count c.write_packet.ensures.bytes in
     record { count = r.0; bytes = r.1; reads = λ mode own h. ap (read_request mode own) r.2 ∙ requests-read-back mode own q h }

@@ -17,8 +17,8 @@ returns-then-out-length-2 c =
 pub returns : goal.returns
 returns c =
     let r = room_twice (reply_bytes c.args.own c.args.first) (reply_bytes c.args.own c.args.second) c.args.out.now
-    c.put-reply-n.new.out c.put-reply.new.out c.put-reply-n.result c.put-reply.result (omega arith)
-    c.put-reply-n.ensures.count c.put-reply-n.ensures.bytes c.put-reply.ensures.count c.put-reply.ensures.bytes in
+    c.put_reply-n.new.out c.put_reply.new.out c.put_reply-n.result c.put_reply.result (omega arith)
+    c.put_reply-n.ensures.count c.put_reply-n.ensures.bytes c.put_reply.ensures.count c.put_reply.ensures.bytes in
     record {
       count = r.0;
       bytes = r.1;

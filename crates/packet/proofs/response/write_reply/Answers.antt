@@ -7,8 +7,8 @@ use Rattle.packet.proofs.response.write_reply.Goals as goal
 pub returns : goal.returns
 returns c =
     let bs = reply_bytes c.args.own c.args.reply in
-    let r = room bs bs c.args.out.now c.put-reply.new.out c.put-reply.result refl (omega arith)
-    c.put-reply.ensures.count c.put-reply.ensures.bytes in
+    let r = room bs bs c.args.out.now c.put_reply.new.out c.put_reply.result refl (omega arith)
+    c.put_reply.ensures.count c.put_reply.ensures.bytes in
     record {
       count = r.0;
       bytes = r.1;

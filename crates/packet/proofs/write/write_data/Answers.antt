@@ -6,6 +6,6 @@ pub returns : goal.returns
 returns c =
     record {
       count = refl;
-      bytes = ended c.args.out.now c.args.data.now c.copy-from-slice.new.self _ _ 0x0A refl (omega arith)
-          c.copy-from-slice.ensures.after (omega arith);
+      bytes = ended c.args.out.now c.args.data.now c.copy_from_slice.new.self _ _ 0x0A refl (omega arith)
+          c.copy_from_slice.ensures.after (omega arith);
     }

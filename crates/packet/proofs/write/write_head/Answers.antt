@@ -9,7 +9,7 @@ returns-in-Standard c =
     record {
       count = ap head_length (sym c.in-Standard.is);
       bytes = in-form Standard c.args.head _ c.args.out.now c.in-Standard.is
-          (c.copy-from-slice.ensures.after ∙ c.standard-bytes.ensures);
+          (c.copy_from_slice.ensures.after ∙ c.standard_bytes.ensures);
     }
 
 pub returns-in-Network : goal.returns-in-Network
@@ -17,5 +17,5 @@ returns-in-Network c =
     record {
       count = ap head_length (sym c.in-Network.is);
       bytes = in-form (Network c.in-Network.terminal) c.args.head _ c.args.out.now c.in-Network.is
-          (c.copy-from-slice-in-Network.ensures.after ∙ c.network-bytes.ensures);
+          (c.copy_from_slice-in-Network.ensures.after ∙ c.network_bytes.ensures);
     }

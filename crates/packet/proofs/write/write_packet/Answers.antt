@@ -3,8 +3,8 @@ use Rattle.std.proofs.lemmas.List.{take_rest, length-drop}
 use Rattle.packet.proofs.Writes.{length-packet, length-bare, with-data, without-data}
 use Rattle.packet.proofs.write.write_packet.Goals as goal
 
-pub write-data-requires : goal.write-data-requires
-write-data-requires c =
+pub write_data-requires : goal.write_data-requires
+write_data-requires c =
     let all = length-packet c.args.head c.args.carries c.args.data.now c.if-carries.true in
     rw (take_rest, length-drop) (omega arith)
 
@@ -12,15 +12,15 @@ pub returns-then-carries : goal.returns-then-carries
 returns-then-carries c =
     record {
       count = omega (arith, length-packet c.args.head c.args.carries c.args.data.now c.if-carries.true);
-      bytes = with-data c.args.head c.args.carries c.args.data.now c.args.out.now c.write-head-n.new.out
-          c.write-data.new.out c.write-head-n.result c.if-carries.true c.write-head-n.ensures.count
-          c.write-head-n.ensures.bytes c.write-data.ensures.bytes;
+      bytes = with-data c.args.head c.args.carries c.args.data.now c.args.out.now c.write_head-n.new.out
+          c.write_data.new.out c.write_head-n.result c.if-carries.true c.write_head-n.ensures.count
+          c.write_head-n.ensures.bytes c.write_data.ensures.bytes;
     }
 
 pub returns-else-carries : goal.returns-else-carries
 returns-else-carries c =
     record {
       count = omega (arith, length-bare c.args.head c.args.carries c.args.data.now c.if-carries.false);
-      bytes = without-data c.args.head c.args.carries c.args.data.now c.args.out.now c.write-head-n.new.out
-          c.if-carries.false c.write-head-n.ensures.bytes;
+      bytes = without-data c.args.head c.args.carries c.args.data.now c.args.out.now c.write_head-n.new.out
+          c.if-carries.false c.write_head-n.ensures.bytes;
     }

@@ -10,15 +10,15 @@ returns-then-self-capacity c =
     let m = c.args.self.now in
     let n = held-length m in
     let y = add-full 256 (room_of m) (held_by m) c.args.id c.args.template.now c.if-id-eq0.false c.if-template-ne-T.false (omega arith) in
-    record { value = y.0; after = y.1; room-same = refl; pages = refl }
+    record { value = y.0; after = y.1; room_same = refl; pages = refl }
 
-pub invariant-of-self : goal.invariant-of-self
-invariant-of-self c =
+pub invariant_of-self : goal.invariant_of-self
+invariant_of-self c =
     let m = c.args.self.now in
     let room : m.count < room_of m = omega (arith, c.if-self-capacity.false, c.capacity.ensures) in
     let small : c.args.id < 65536 = search rules in
-    (added m c.args.id c.args.template.now room c.if-template-ne-T.false c.write-page.new.bytes c.deref-mut.result.now c.from.result
-    c.write-page.ensures c.deref-mut.ensures.value c.from.ensures (omega (arith, c.if-id-eq0.false)) small).0
+    (added m c.args.id c.args.template.now room c.if-template-ne-T.false c.write_page.new.bytes c.deref_mut.result.now c.from.result
+    c.write_page.ensures c.deref_mut.ensures.value c.from.ensures (omega (arith, c.if-id-eq0.false)) small).0
 
 pub returns : goal.returns
 returns c =
@@ -27,7 +27,7 @@ returns c =
     let room : m.count < room_of m = omega (arith, c.if-self-capacity.false, c.capacity.ensures) in
     let small : c.args.id < 65536 = search rules in
     let a =
-    added m c.args.id c.args.template.now room c.if-template-ne-T.false c.write-page.new.bytes c.deref-mut.result.now c.from.result
-    c.write-page.ensures c.deref-mut.ensures.value c.from.ensures (omega (arith, c.if-id-eq0.false)) small in
+    added m c.args.id c.args.template.now room c.if-template-ne-T.false c.write_page.new.bytes c.deref_mut.result.now c.from.result
+    c.write_page.ensures c.deref_mut.ensures.value c.from.ensures (omega (arith, c.if-id-eq0.false)) small in
     let y = add-there 256 (room_of m) (held_by m) c.args.id c.args.template.now c.if-id-eq0.false c.if-template-ne-T.false (omega arith) in
-    record { value = y.0; after = a.1 ∙ y.1; room-same = a.2; pages = a.3 }
+    record { value = y.0; after = a.1 ∙ y.1; room_same = a.2; pages = a.3 }

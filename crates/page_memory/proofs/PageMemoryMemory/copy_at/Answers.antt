@@ -27,7 +27,7 @@ returns c =
     let rest = drop 256 c.args.into.now in
     record {
       value = y.0;
-      after = c.read-page.ensures
+      after = c.read_page.ensures
           ∙ ap (λ b. page_bytes b c.from.result ++ rest) c.deref.ensures.value
           ∙ ap (λ page. page_bytes bytes page ++ rest) c.from.ensures
           ∙ ap (λ h. h.template ++ rest) (sym (listed_at m (held_of bytes) c.args.place none c.if-place-self.false))

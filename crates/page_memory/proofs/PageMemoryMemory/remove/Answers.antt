@@ -12,14 +12,14 @@ returns-then-place-self c =
     let n = held-length m in
     let k = listed-length m (λ r. r.page) in
     let y = remove-past (held_by m) c.args.place (omega arith) in
-    record { value = y.0; after = y.1; room-same = refl; pages = removed-past (pages_of m) c.args.place (omega arith) }
+    record { value = y.0; after = y.1; room_same = refl; pages = removed-past (pages_of m) c.args.place (omega arith) }
 
-pub invariant-of-self : goal.invariant-of-self
-invariant-of-self c =
+pub invariant_of-self : goal.invariant_of-self
+invariant_of-self c =
     let m = c.args.self.now in
     let t = c.if-place-self.false in
     rw (strikes m c.args.place t c.strike.new.rows (m.count - 0) (omega arith) c.strike.ensures.after)
-    (filed-struck m c.args.place t, (inside-struck m c.args.place t, (apart-struck m c.args.place t, tt)))
+    (record { filed = filed-struck m c.args.place t; inside = inside-struck m c.args.place t; apart = apart-struck m c.args.place t })
 
 pub returns : goal.returns
 returns c =
@@ -31,6 +31,6 @@ returns c =
     record {
       value = y.0;
       after = ap (λ d. held_in (bytes_of m) d (m.count - 1)) e ∙ one_less m c.args.place t (held_of (bytes_of m)) ∙ y.1;
-      room-same = refl;
+      room_same = refl;
       pages = ap (λ d. pages_in d (m.count - 1)) e ∙ one_less m c.args.place t (λ r. r.page);
     }

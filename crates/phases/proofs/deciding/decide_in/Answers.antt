@@ -8,5 +8,5 @@ pub returns-in-Some : goal.returns-in-Some
 returns-in-Some g c =
     let s = view g.M.Matcher g.S.Memory c.args.device.now in
     let x = c.in-Finger.scan in
-    let bad = c.in-Some.ensures ∙ ap (λ n. scan_fault (length x.bytes.now) n x.quality) c.template-size.ensures in
+    let bad = c.in-Some.ensures ∙ ap (λ n. scan_fault (length x.bytes.now) n x.quality) c.template_size.ensures in
     ap Ok (c.spoil.ensures ∙ spoils s s.waiting x.bytes.now x.quality c.in-Some.code bad ∙ sym (ap (decided s) c.in-Finger.is))

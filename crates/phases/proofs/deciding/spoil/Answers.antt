@@ -9,5 +9,5 @@ pub returns-in-Some : goal.returns-in-Some
 returns-in-Some g c =
     let d = c.args.device.now in
     let s = view g.M.Matcher g.S.Memory d in
-    by-waiting d.form d.left _ _ (λ _ o. went (view g.M.Matcher g.S.Memory c.give-up.new.device) c.give-up.result ≡ spoiled s o c.args.code)
-    (c.in-Some.ensures g.S.Memory.size d.first d.form d.left) (λ x command. c.give-up.ensures (waiting_for d x) refl command)
+    by-waiting d.form d.left _ _ (λ _ o. went (view g.M.Matcher g.S.Memory c.give_up.new.device) c.give_up.result ≡ spoiled s o c.args.code)
+    (c.in-Some.ensures g.S.Memory.size d.first d.form d.left) (λ x command. c.give_up.ensures (waiting_for d x) refl command)

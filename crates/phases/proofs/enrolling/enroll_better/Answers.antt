@@ -14,9 +14,9 @@ returns g c = λ w form command.
     let two = c.args.scan.bytes.now in
     let one = d.first.bytes in
     let b = ltb d.first.quality c.args.scan.quality in
-    let part = c.better-template.ensures.value ∙ ap (λ n. take n (cond b two one)) c.template-size-size.ensures
+    let part = c.better-template.ensures.value ∙ ap (λ n. take n (cond b two one)) c.template_size-size.ensures
     ∙ better-part b g.S.Memory.size one two c.requires in
     enrolls s w e (better (take g.S.Memory.size one) d.first.quality two c.args.scan.quality ∷ []) _ _ _ _ _ _
-    (c.end.ensures w form (command ∙ sym c.enroll-command-command.ensures)) c.from.ensures (c.from-best.ensures ∙ c.max.ensures)
-    c.enroll-one.ensures.room-same
-    (c.enroll-one.ensures.after ∙ ap (add_after g.S.Memory.size s.room (staying e.flag e.id s.held) e.id) part)
+    (c.end.ensures w form (command ∙ sym c.enroll_command-command.ensures)) c.from.ensures (c.from-best.ensures ∙ c.max.ensures)
+    c.enroll_one.ensures.room_same
+    (c.enroll_one.ensures.after ∙ ap (add_after g.S.Memory.size s.room (staying e.flag e.id s.held) e.id) part)

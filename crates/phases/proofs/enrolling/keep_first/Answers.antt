@@ -9,6 +9,6 @@ pub returns : goal.returns
 returns g c =
     let s = view g.M.Matcher g.S.Memory c.args.device.now in
     let w = waiting_for c.args.device.now (first_finger c.args.enrollment) in
-    keeps s _ _ w c.args.enrollment g.S.Memory.size c.copy-from-slice.new.self _ c.args.scan.bytes.now c.args.scan.quality
-    c.wait-for.ensures c.copy-from-slice.ensures.after c.requires
-    (c.scanned-only-answers.ensures _ w refl (sym c.enroll-command.ensures))
+    keeps s _ _ w c.args.enrollment g.S.Memory.size c.copy_from_slice.new.self _ c.args.scan.bytes.now c.args.scan.quality
+    c.wait_for.ensures c.copy_from_slice.ensures.after c.requires
+    (c.scanned_only-answers.ensures _ w refl (sym c.enroll_command.ensures))

@@ -13,8 +13,8 @@ returns-then-not-agrees g c =
     let s = view g.M.Matcher g.S.Memory d in
     let one = take g.S.Memory.size d.first.bytes in
     let w = waiting_for d (second_finger c.args.enrollment one d.first.quality) in
-    let stored = c.first-scan.ensures ∙ ap (λ n. take n d.first.bytes) c.template-size-size.ensures in
-    c.end.ensures w refl (sym c.enroll-command.ensures)
+    let stored = c.first_scan.ensures ∙ ap (λ n. take n d.first.bytes) c.template_size-size.ensures in
+    c.end.ensures w refl (sym c.enroll_command.ensures)
     ∙ ap (λ b. cond b
     (second s w c.args.enrollment d.settings.enroll one d.first.quality c.args.scan.bytes.now c.args.scan.quality)
     (ended s w 0 0 TryAgain))

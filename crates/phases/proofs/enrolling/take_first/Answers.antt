@@ -12,6 +12,6 @@ returns-in-Once g c =
     let s = view g.M.Matcher g.S.Memory d in
     let w = waiting_for d (first_finger c.args.enrollment) in
     let scan = c.args.scan.bytes.now in
-    enrolls s w c.args.enrollment (scan ∷ []) _ _ _ _ _ c.args.scan.quality (c.end.ensures w refl (sym c.enroll-command-command.ensures))
-    c.from.ensures c.from-in-Once.ensures c.enroll-one.ensures.room-same c.enroll-one.ensures.after
+    enrolls s w c.args.enrollment (scan ∷ []) _ _ _ _ _ c.args.scan.quality (c.end.ensures w refl (sym c.enroll_command-command.ensures))
+    c.from.ensures c.from-in-Once.ensures c.enroll_one.ensures.room_same c.enroll_one.ensures.after
     ∙ sym (ap (λ m. first s w c.args.enrollment m scan c.args.scan.quality) c.in-Once.is)

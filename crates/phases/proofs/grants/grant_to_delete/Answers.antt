@@ -9,7 +9,7 @@ pub returns-in-Some : goal.returns-in-Some
 returns-in-Some g c =
     let s = view g.M.Matcher g.S.Memory c.args.device.now in
     let w = waiting_for c.args.device.now (grant_to_delete c.args.range) in
-    c.go-on.ensures w (person_to_delete c.args.range) refl refl refl ∙ ap (granted s w (person_to_delete c.args.range)) c.in-Some.ensures
+    c.go_on.ensures w (person_to_delete c.args.range) refl refl refl ∙ ap (granted s w (person_to_delete c.args.range)) c.in-Some.ensures
 
 pub returns-in-None : goal.returns-in-None
 returns-in-None g c =

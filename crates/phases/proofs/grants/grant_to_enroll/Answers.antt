@@ -9,10 +9,10 @@ pub returns-in-Some : goal.returns-in-Some
 returns-in-Some g c =
     let s = view g.M.Matcher g.S.Memory c.args.device.now in
     let w = waiting_for c.args.device.now (grant_to_enroll c.args.enrollment) in
-    c.go-on.ensures w (first_finger c.args.enrollment) refl (sym c.enroll-command-command.ensures) refl ∙ ap (granted s w (first_finger c.args.enrollment)) c.in-Some.ensures
+    c.go_on.ensures w (first_finger c.args.enrollment) refl (sym c.enroll_command-command.ensures) refl ∙ ap (granted s w (first_finger c.args.enrollment)) c.in-Some.ensures
 
 pub returns-in-None : goal.returns-in-None
 returns-in-None g c =
     let s = view g.M.Matcher g.S.Memory c.args.device.now in
     let w = waiting_for c.args.device.now (grant_to_enroll c.args.enrollment) in
-    c.end.ensures w refl (sym c.enroll-command-command.ensures) ∙ ap (granted s w (first_finger c.args.enrollment)) c.in-None.ensures
+    c.end.ensures w refl (sym c.enroll_command-command.ensures) ∙ ap (granted s w (first_finger c.args.enrollment)) c.in-None.ensures

@@ -9,7 +9,7 @@ pub returns-in-Some : goal.returns-in-Some
 returns-in-Some g c =
     let s = view g.M.Matcher g.S.Memory c.args.device.now in
     let w = waiting_for c.args.device.now (person_to_delete c.args.range) in
-    c.delete-found.ensures c.args.range c.in-Some.field-0-1 ∙ ap (deleted s w) (c.in-Some.ensures.enough c.requires)
+    c.delete_found.ensures c.args.range c.in-Some.field-0-1 ∙ ap (deleted s w) (c.in-Some.ensures.enough c.requires)
 
 pub returns-in-None : goal.returns-in-None
 returns-in-None g c =

@@ -15,5 +15,5 @@ pub returns-in-None : goal.returns-in-None
 returns-in-None g c = λ range number.
     let s = view g.M.Matcher g.S.Memory c.args.device.now in
     let w = waiting_for c.args.device.now (person_to_delete range) in
-    forgets s w c.args.id number _ _ _ _ _ (c.end-in-None.ensures w refl refl) c.from.ensures c.delete-all-of.ensures.room-same
-    c.delete-all-of.ensures.after c.strike.ensures c.in-None.ensures
+    forgets s w c.args.id number _ _ _ _ _ (c.end-in-None.ensures w refl refl) c.from.ensures c.delete_all_of.ensures.room_same
+    c.delete_all_of.ensures.after c.strike.ensures c.in-None.ensures

@@ -7,4 +7,4 @@ fitting : (a b : ℕ) (x y z : Step) → a ≡ b → z ≡ y → z ≡ cond (not
 fitting a b x y z e k = k ∙ sym (ap (λ t. cond (not t) x y) (eq-eqb a b e))
 
 pub returns : goal.returns
-returns g c = fitting _ _ _ _ _ (c.if-request-template-size.false ∙ c.template-size.ensures) c.enroll-fitting.ensures
+returns g c = fitting _ _ _ _ _ (c.if-request-template_size.false ∙ c.template_size.ensures) c.enroll_fitting.ensures

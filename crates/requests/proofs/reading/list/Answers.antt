@@ -5,5 +5,5 @@ use Rattle.requests.proofs.reading.list.Goals as goal
 
 pub returns-then-request-eq0 : goal.returns-then-request-eq0
 returns-then-request-eq0 g c =
-    c.list-block.ensures
+    c.list_block.ensures
     ∙ list_all _ (request_parts c.args.request) c.count-count.result c.count-count.ensures c.if-request-eq0.true

@@ -11,13 +11,13 @@ returns-then-self-capacity c =
     let n = rows-length bs s.count in
     let no = add-full 384 (capacity_of bs) (rows_in bs s.count) c.args.id c.args.template.now
     c.if-id-eq0.false c.if-template-ne-T.false (omega arith) in
-    record { value = no.0; after = no.1; room-same = refl }
+    record { value = no.0; after = no.1; room_same = refl }
 
-pub invariant-of-self : goal.invariant-of-self
-invariant-of-self c =
+pub invariant_of-self : goal.invariant_of-self
+invariant_of-self c =
     let s = c.args.self.now in
     let chip = chip-added (vec_items s.bytes) s.count c.args.id c.args.template.now (omega arith) c.if-template-ne-T.false (search rules)
-    s.bytes refl c.deref-mut.ensures.value c.write-row.auto.bytes c.write-row.ensures (omega arith) s.sound in
+    s.bytes refl c.deref_mut.ensures.value c.write_row.auto.bytes c.write_row.ensures (omega arith) s.sound in
     (chip.fits, (chip.sound, tt))
 
 pub returns : goal.returns
@@ -26,7 +26,7 @@ returns c =
     let bs = vec_items s.bytes in
     let n = rows-length bs s.count in
     let chip = chip-added bs s.count c.args.id c.args.template.now (omega arith) c.if-template-ne-T.false (search rules)
-    s.bytes refl c.deref-mut.ensures.value c.write-row.auto.bytes c.write-row.ensures (omega arith) s.sound in
+    s.bytes refl c.deref_mut.ensures.value c.write_row.auto.bytes c.write_row.ensures (omega arith) s.sound in
     let yes = add-there 384 (capacity_of bs) (rows_in bs s.count) c.args.id c.args.template.now
     c.if-id-eq0.false c.if-template-ne-T.false (omega arith) in
-    record { value = yes.0; after = chip.holds ∙ yes.1; room-same = chip.room }
+    record { value = yes.0; after = chip.holds ∙ yes.1; room_same = chip.room }

@@ -15,7 +15,7 @@ returns-then-into-ge-T c =
     let yes = copy-there (rows_in bs s.count) p 384 into (omega arith) (omega arith) in
     record {
       value = yes.0;
-      after = c.read-template.ensures
+      after = c.read_template.ensures
           ∙ ap (λ b. (held_in (row_at b p)).template ++ drop 384 into) c.deref.ensures.value
           ∙ ap (λ e. e.template ++ drop 384 into) (sym (row-there bs s.count p none (omega arith)))
           ∙ yes.1;

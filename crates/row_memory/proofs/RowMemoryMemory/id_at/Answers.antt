@@ -11,7 +11,7 @@ returns-then-place-self c =
     let p = c.args.place in
     let bs = vec_items s.bytes in
     let n = rows-length bs s.count in
-    ap Some (c.read-id.ensures ∙ ap (λ b. (held_in (row_at b p)).id) c.deref.ensures.value
+    ap Some (c.read_id.ensures ∙ ap (λ b. (held_in (row_at b p)).id) c.deref.ensures.value
     ∙ sym (ap (λ e. e.id) (row-there bs s.count p none c.if-place-self.true)))
     ∙ id_there (rows_in bs s.count) p (omega arith)
 

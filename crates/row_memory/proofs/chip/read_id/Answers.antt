@@ -8,4 +8,4 @@ returns c =
     let k = c.args.place in
     let low = row-byte bs k 0 0 (omega arith) ∙ ap (λ i. get_or bs i 0) (add-zero (k * 386)) in
     let high = row-byte bs k 1 0 (omega arith) in
-    c.from-le-bytes.ensures ∙ omega arith
+    c.from_le_bytes.ensures ∙ omega arith

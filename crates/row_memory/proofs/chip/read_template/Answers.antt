@@ -10,12 +10,12 @@ template bs k =
     let e : k * 386 + 386 - (k * 386 + 2) ≡ 384 = omega arith in
     rw e (ap (take 384) (sym (drop-drop 2 (k * 386) bs)) ∙ sym (drop-take 2 384 (drop (k * 386) bs)))
 
-pub copy-from-slice-requires : goal.copy-from-slice-requires
-copy-from-slice-requires c =
+pub copy_from_slice-requires : goal.copy_from_slice-requires
+copy_from_slice-requires c =
     let start = c.args.place * 386 in
-    let front = length-take-le 384 c.args.into.now c.requires.1 in
-    let rest = length-between c.args.bytes.now (start + 2) (start + 386) c.requires.0 in
+    let front = length-take-le 384 c.args.into.now c.requires.in_bounds in
+    let rest = length-between c.args.bytes.now (start + 2) (start + 386) c.requires.place_in_bounds in
     omega arith
 
 pub returns : goal.returns
-returns c = ap (λ t. t ++ drop 384 c.args.into.now) (c.copy-from-slice.ensures.after ∙ template c.args.bytes.now c.args.place)
+returns c = ap (λ t. t ++ drop 384 c.args.into.now) (c.copy_from_slice.ensures.after ∙ template c.args.bytes.now c.args.place)

@@ -4,7 +4,7 @@ use Rattle.memory.proofs.Cases.{id_there}
 use Rattle.search.proofs.Marks.{marked_more, marked-same}
 use Rattle.search.proofs.Steps.{id-is}
 use Rattle.search.proofs.ids.taken_ids.Goals as goal
-use Rattle.search.proofs.ids.taken_ids.Goals.{in-Some+then-id-lt-LOW-IDS, in-Some+else-id-lt-LOW-IDS, in-default}
+use Rattle.search.proofs.ids.taken_ids.Goals.{in-Some+then-id-lt-LOW_IDS, in-Some+else-id-lt-LOW_IDS, in_default}
 
 pub loop-place-init : goal.loop-place-init
 loop-place-init g c = (refl, λ id l. get_or-replicate 502 id false false l)
@@ -14,14 +14,14 @@ loop-place-preserved g c =
     let h = g.S.Memory.held c.args.memory.now in
     let i = c.loop-place.place in
     let inside : i < length h = omega arith in
-    elim c.match-id-at.branch [
-      | in-Some+then-id-lt-LOW-IDS w ↦
-          let is = w.from-id.ensures ∙ id-is h i inside w.in-Some.id (sym w.in-Some.is ∙ c.id-at.ensures) in
-          rw w.taken-is (marked_more h i inside 502 c.loop-place.taken c.loop-place.invariant w.from-id.result is w.if-id-lt-LOW-IDS.true)
-      | in-Some+else-id-lt-LOW-IDS w ↦
-          let is = w.from-id.ensures ∙ id-is h i inside w.in-Some.id (sym w.in-Some.is ∙ c.id-at.ensures) in
+    elim c.match-id_at.branch [
+      | in-Some+then-id-lt-LOW_IDS w ↦
+          let is = w.from-id.ensures ∙ id-is h i inside w.in-Some.id (sym w.in-Some.is ∙ c.id_at.ensures) in
+          rw w.taken-is (marked_more h i inside 502 c.loop-place.taken c.loop-place.invariant w.from-id.result is w.if-id-lt-LOW_IDS.true)
+      | in-Some+else-id-lt-LOW_IDS w ↦
+          let is = w.from-id.ensures ∙ id-is h i inside w.in-Some.id (sym w.in-Some.is ∙ c.id_at.ensures) in
           rw w.taken-is (marked-same h i inside 502 c.loop-place.taken c.loop-place.invariant (omega arith))
-      | in-default w ↦ absurd (w.in-default.not-Some _ (c.id-at.ensures ∙ sym (id_there h i inside)))
+      | in_default w ↦ absurd (w.in_default.not-Some _ (c.id_at.ensures ∙ sym (id_there h i inside)))
     ]
 
 pub returns : goal.returns

@@ -7,16 +7,16 @@ use Rattle.administrators.specs.Table.{rows_of}
 use Rattle.administrators.proofs.Rows.{any-no, any-yes}
 use Rattle.administrators.proofs.table.Administrators.any_may.Goals as goal
 
-pub returns-then-comes-with : goal.returns-then-comes-with
-returns-then-comes-with c =
+pub returns-then-comes_with : goal.returns-then-comes_with
+returns-then-comes_with c =
     any-yes (permits c.args.right) (rows_of c.args.self.now) c.loop-row.row-index _ (rw sub-zero at c.loop-row-test.true)
-    (rw sub-zero at c.if-comes-with.ensures)
+    (rw sub-zero at c.if-comes_with.ensures)
     ∙ c.loop-row.invariant
 
 pub loop-row-preserved : goal.loop-row-preserved
 loop-row-preserved c =
     any-no (permits c.args.right) (rows_of c.args.self.now) c.loop-row.row-index _ (rw sub-zero at c.loop-row-test.true)
-    (rw sub-zero at c.if-comes-with.ensures)
+    (rw sub-zero at c.if-comes_with.ensures)
     ∙ c.loop-row.invariant
 
 pub returns : goal.returns

@@ -2,16 +2,16 @@ use Rattle.std.proofs.Common.{◌-◌, arith}
 use Rattle.administrators.proofs.Struck.{leaves, strikes}
 use Rattle.administrators.proofs.table.Administrators.strike.Goals as goal
 
-pub invariant-of-self : goal.invariant-of-self
-invariant-of-self c =
+pub invariant_of-self : goal.invariant_of-self
+invariant_of-self c =
     let t = c.args.self.now in
     let s =
     strikes t c.args.id c.strike.new.rows (t.count - 0) (omega arith) c.strike.ensures.after c.strike.auto.rows
     c.if-strike.ensures.value in
     (s.0, (omega (arith, t.within), (s.1, tt)))
 
-pub invariant-of-self-else-strike : goal.invariant-of-self-else-strike
-invariant-of-self-else-strike c =
+pub invariant_of-self-else-strike : goal.invariant_of-self-else-strike
+invariant_of-self-else-strike c =
     let t = c.args.self.now in
     let s =
     leaves t c.args.id c.strike.new.rows (t.count - 0) (omega arith) c.strike.ensures.after c.strike.auto.rows

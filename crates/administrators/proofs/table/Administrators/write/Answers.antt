@@ -6,16 +6,16 @@ use Rattle.administrators.proofs.InUse.{in_use, level-there, one-changed, one_mo
 use Rattle.administrators.proofs.Rows.{unlisted}
 use Rattle.administrators.proofs.table.Administrators.write.Goals as goal
 
-pub invariant-of-self : goal.invariant-of-self
-invariant-of-self c =
+pub invariant_of-self : goal.invariant_of-self
+invariant_of-self c =
     let t = c.args.self.now in
     let s =
-    one-changed t c.args.id c.in-Some.at c.in-Some.ensures.value _ c.args.level c.set-level.new.self
-    c.set-level.ensures in
+    one-changed t c.args.id c.in-Some.at c.in-Some.ensures.value _ c.args.level c.set_level.new.self
+    c.set_level.ensures in
     (s.0, (t.within, (s.1, tt)))
 
-pub invariant-of-self-then-self-lt-ROWS : goal.invariant-of-self-then-self-lt-ROWS
-invariant-of-self-then-self-lt-ROWS c =
+pub invariant_of-self-then-self-lt-ROWS : goal.invariant_of-self-then-self-lt-ROWS
+invariant_of-self-then-self-lt-ROWS c =
     let s =
     one_more c.args.self.now (record { id = c.args.id; level = c.args.level }) c.in-None.ensures.value c.if-self-lt-ROWS.true in
     (s.0, (omega arith, (s.1, tt)))
@@ -24,10 +24,10 @@ pub returns-in-Some : goal.returns-in-Some
 returns-in-Some c =
     let t = c.args.self.now in
     let s =
-    one-changed t c.args.id c.in-Some.at c.in-Some.ensures.value _ c.args.level c.set-level.new.self
-    c.set-level.ensures in
+    one-changed t c.args.id c.in-Some.at c.in-Some.ensures.value _ c.args.level c.set_level.new.self
+    c.set_level.ensures in
     let there : true ≡ is_some (level_of c.args.id (rows_of t)) =
-    ap is_some (level-there t c.args.id c.in-Some.at c.in-Some.ensures.value c.set-level.new.self) in
+    ap is_some (level-there t c.args.id c.in-Some.at c.in-Some.ensures.value c.set_level.new.self) in
     record { value = rw (← there); after = s.2 ∙ rw (← there) }
 
 pub returns-in-None : goal.returns-in-None

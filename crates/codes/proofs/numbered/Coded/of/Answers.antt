@@ -6,9 +6,9 @@ use Rattle.codes.proofs.numbered.Coded.of.Goals as goal
 
 pub returns-in-Some : goal.returns-in-Some
 returns-in-Some g c =
-    let value : Known c.in-Some.c ≡ coded g.C.Numbered.numberOf g.C.Numbered.cases c.args.byte = search rules in
+    let value : Known c.in-Some.c ≡ coded g.C.Numbered.number_of g.C.Numbered.cases c.args.byte = search rules in
     record {
       value = value;
-      back = ap (byte_of g.C.Numbered.numberOf) value
-          ∙ byte-back g.C.Numbered.numberOf g.C.Numbered.cases c.args.byte;
+      back = ap (byte_of g.C.Numbered.number_of) value
+          ∙ byte-back g.C.Numbered.number_of g.C.Numbered.cases c.args.byte;
     }

@@ -6,6 +6,6 @@ pub returns : goal.returns
 returns g c =
     let s = view g.M.Matcher g.S.Memory c.args.self.now in
     record {
-      value = any_value s _ _ _ _ _ c.any-agrees.ensures c.strictness-strictness.ensures;
-      enough = any-enough s _ _ _ _ _ c.any-agrees.ensures c.strictness-strictness.ensures g.met.S.Memory.sized.1;
+      value = any_value s _ _ _ _ _ c.any_agrees.ensures c.strictness-strictness.ensures;
+      enough = any-enough s _ _ _ _ _ c.any_agrees.ensures c.strictness-strictness.ensures g.met.S.Memory.sized.1;
     }

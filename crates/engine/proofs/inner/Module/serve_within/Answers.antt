@@ -8,15 +8,15 @@ use Rattle.machine.specs.Machine.{step_of}
 use Rattle.std.proofs.lemmas.Result.{err_from_is_err_and}
 use Rattle.engine.proofs.inner.Module.serve_within.Goals as goal
 
-pub returns-in-err-answers : goal.returns-in-err-answers
-returns-in-err-answers g c =
+pub returns-in_err-answers : goal.returns-in_err-answers
+returns-in_err-answers g c =
     let v = state g.M.Matcher g.S.Memory c.args.self.now in
     let w = state g.M.Matcher g.S.Memory c.hear.new.self in
     let k = call (event_of c.args.input) c.args.out.now c.args.work.now in
     let p = err_from_is_err_and c.from-residual.result c.from-residual.ensures.1 in
     let R : Result Answer Refusal → Type 0 = λ a. Shows v k.event (step_of v k) a w k.out k.out in
     record {
-      shows = subst R (sym (p.1 ∙ ap Err p.2)) (refused v k w (within v k c.requires.0 c.requires.1) _ c.in-err-answers.ensures);
+      shows = subst R (sym (p.1 ∙ ap Err p.2)) (refused v k w (within v k c.requires.0 c.requires.1) _ c.in_err-answers.ensures);
       cleared = search rules;
     }
 
@@ -26,7 +26,7 @@ returns g c =
     let w = state g.M.Matcher g.S.Memory c.hear.new.self in
     let k = call (event_of c.args.input) c.args.out.now c.args.work.now in
     record {
-      shows = answered v k w (within v k c.requires.0 c.requires.1) _ _ _ _ c.in-ok-answers.ensures c.write-answers-count.ensures
-          (c.outcomes-of.ensures _) (g.met.S.Memory.sound c.args.self.now.device.memory);
+      shows = answered v k w (within v k c.requires.0 c.requires.1) _ _ _ _ c.in_ok-answers.ensures c.write_answers-count.ensures
+          (c.outcomes_of.ensures _) (g.met.S.Memory.sound c.args.self.now.device.memory);
       cleared = search rules;
     }

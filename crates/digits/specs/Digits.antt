@@ -1,6 +1,6 @@
 use Rattle.std.specs.Prelude.{◌≡◌, ℕ, ◌+◌, ◌-◌, ◌*◌, ◌/◌, ◌%◌, Bool, cond, ◌&&◌, List, [], ◌∷◌, Some, None, Ok, Err, Option, Result, nat_le, nat_lt}
-use Rattle.hex.specs.declared.Fault.{Fault}
-use Rattle.hex.specs.declared.Fault.TheVariants.{NoDigit, Odd, Memory}
+use Rattle.digits.specs.declared.Fault.{Fault}
+use Rattle.digits.specs.declared.Fault.TheVariants.{NoDigit, Odd, Memory}
 
 abbrev pub within : ℕ → ℕ → ℕ → Bool
 within low high c = nat_le low c && nat_le c high

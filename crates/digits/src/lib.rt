@@ -1,7 +1,7 @@
 //! Bytes written as pairs of hexadecimal digits, 0 to 9 and A to F.
 
 ghost use Rattle.std.specs.Prelude.{◌≡◌, ◌+◌, ◌*◌, ◌/◌, ◌^◌, ◌<◌, ◌++◌, length, IfOk, IfErr, Ok, vec_len, vec_capacity, MatchResult, OnErr, OnOk};
-ghost use Rattle.hex.specs.Digits.{Because, byte_from, digit_from, digit_of, digit_value, hex_bytes, hex_text};
+ghost use Rattle.digits.specs.Digits.{Because, byte_from, digit_from, digit_of, digit_value, hex_bytes, hex_text};
 
 use std::alloc::{AllocError, Global};
 

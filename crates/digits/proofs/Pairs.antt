@@ -2,9 +2,9 @@
 use Rattle.std.proofs.Common.{◌≡◌, ℕ, ◌+◌, ◌-◌, ◌*◌, ◌/◌, ◌%◌, ◌<◌, ◌≤◌, List, [], ◌∷◌, ◌++◌, length, get_or, take, drop, Some, None, Ok, Err, Option, Result, sym, refl, ap, ◌∙◌, arith}
 use Rattle.std.proofs.lemmas.List.{take_rest, append_assoc, append-nil}
 use Rattle.std.proofs.lemmas.Bool.Decides.{nat_tests}
-use Rattle.hex.specs.declared.Fault.{Fault}
-use Rattle.hex.specs.declared.Fault.TheVariants.{Odd}
-use Rattle.hex.specs.Digits.{and_then, before, byte_from, bytes_from, digit_from, digit_of, digit_value, hex_text, or_no_digit}
+use Rattle.digits.specs.declared.Fault.{Fault}
+use Rattle.digits.specs.declared.Fault.TheVariants.{Odd}
+use Rattle.digits.specs.Digits.{and_then, before, byte_from, bytes_from, digit_from, digit_of, digit_value, hex_text, or_no_digit}
 
 -- what is read in all, where `done` is read and the rest reads as r
 abbrev pub after : List ℕ → Result (List ℕ) Fault → Result (List ℕ) Fault

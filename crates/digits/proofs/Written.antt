@@ -1,7 +1,7 @@
 -- The step of a loop that writes bytes as digits.
 use Rattle.std.proofs.Common.{◌≡◌, ℕ, ◌+◌, ◌/◌, ◌%◌, ◌<◌, List, [], ◌∷◌, ◌++◌, length, get_or, take, sym, refl, ap, ◌∙◌}
 use Rattle.std.proofs.lemmas.List.{append_assoc, take_more}
-use Rattle.hex.specs.Digits.{digit_of, hex_text}
+use Rattle.digits.specs.Digits.{digit_of, hex_text}
 
 hex-append : (xs ys : List ℕ) → hex_text (xs ++ ys) ≡ hex_text xs ++ hex_text ys
 hex-append [] ys = refl

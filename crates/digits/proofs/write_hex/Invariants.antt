@@ -1,6 +1,6 @@
 use Rattle.std.proofs.Common.{◌≡◌, ◌+◌, ◌*◌, ◌≤◌, ◌++◌, take, vec_items, vec_len, vec_capacity}
-use Rattle.hex.specs.Digits.{hex_text}
-use Rattle.hex.proofs.write_hex.Given as goal
+use Rattle.digits.specs.Digits.{hex_text}
+use Rattle.digits.proofs.write_hex.Given as goal
 
 abbrev pub invariant-loop-b : goal.invariant-loop-b
 invariant-loop-b l =

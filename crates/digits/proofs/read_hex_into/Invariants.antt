@@ -1,7 +1,7 @@
 use Rattle.std.proofs.Common.{◌≡◌, ◌+◌, ◌*◌, ◌/◌, ◌≤◌, length, vec_items, vec_len, vec_capacity}
-use Rattle.hex.specs.Digits.{bytes_from, hex_bytes}
-use Rattle.hex.proofs.Pairs.{after}
-use Rattle.hex.proofs.read_hex_into.Given as goal
+use Rattle.digits.specs.Digits.{bytes_from, hex_bytes}
+use Rattle.digits.proofs.Pairs.{after}
+use Rattle.digits.proofs.read_hex_into.Given as goal
 
 abbrev pub invariant-loop-rest : goal.invariant-loop-rest
 invariant-loop-rest l =

@@ -97,11 +97,11 @@ module _ (m : PageMemory) (id : ℕ) (template : List ℕ) (room : m.count < roo
 
   -- what the memory then is, with the bytes as the page's write left them
   pub added : (ws bs : List ℕ) (page : ℕ) → ws ≡ paste bs (page * 256) template 256 → bs ≡ bytes_of m → page ≡ free → 0 < id → id < 2 ^ 16
-      → (Filed (with_items m.bytes ws).items directory' (m.count + 1) × (Inside (with_items m.bytes ws).items directory' × (Apart directory' × Unit {0})))
+      → (Filed (with_items m.bytes ws).items directory' (m.count + 1) × Inside (with_items m.bytes ws).items directory' × Apart directory')
       × (held_in (with_items m.bytes ws).items directory' (m.count + 1) ≡ held_by m ++ (record { id = id; template = template }) ∷ [])
       × (capacity_of (with_items m.bytes ws).items ≡ room_of m)
       × NewPage (room_of m) (pages_of m) (pages_in directory' (m.count + 1))
   added ws bs page wrote same first some small =
       let e : ws ≡ bytes' = wrote ∙ ap (λ b. paste b (page * 256) template 256) same ∙ ap (λ p. paste (bytes_of m) (p * 256) template 256) first in
       let refill : (with_items m.bytes ws).items ≡ bytes' = with_items_is m.bytes ws (ap length e ∙ bytes-length ∙ sym m.bytes.ok.0) ∙ e in
-      rw refill ((filed-added some small, (inside-added, (apart-added, tt))), held-added, capacity-same, page-added)
+      rw refill ((filed-added some small, inside-added, apart-added), held-added, capacity-same, page-added)

@@ -17,8 +17,10 @@ invariant_of-self c =
     let m = c.args.self.now in
     let room : m.count < room_of m = omega (arith, c.if-self-capacity.false, c.capacity.ensures) in
     let small : c.args.id < 65536 = search rules in
+    let a =
     (added m c.args.id c.args.template.now room c.if-template-ne-T.false c.write_page.new.bytes c.deref_mut.result.now c.from.result
-    c.write_page.ensures c.deref_mut.ensures.value c.from.ensures (omega (arith, c.if-id-eq0.false)) small).0
+    c.write_page.ensures c.deref_mut.ensures.value c.from.ensures (omega (arith, c.if-id-eq0.false)) small).0 in
+    record { filed = a.0; inside = a.1; apart = a.2 }
 
 pub returns : goal.returns
 returns c =

@@ -18,7 +18,7 @@ invariant_of-self c =
     let s = c.args.self.now in
     let chip = chip-added (vec_items s.bytes) s.count c.args.id c.args.template.now (omega arith) c.if-template-ne-T.false (search rules)
     s.bytes refl c.deref_mut.ensures.value c.write_row.auto.bytes c.write_row.ensures (omega arith) s.sound in
-    (chip.fits, (chip.sound, tt))
+    record { fits = chip.fits; sound = chip.sound }
 
 pub returns : goal.returns
 returns c =

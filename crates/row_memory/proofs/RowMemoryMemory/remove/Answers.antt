@@ -9,7 +9,7 @@ invariant_of-self c =
     let s = c.args.self.now in
     let chip = chip-moved (vec_items s.bytes) s.count c.args.place s.fits c.if-place-self.true
     s.bytes refl c.deref_mut.ensures.value c.close_row.auto.bytes c.close_row.ensures s.sound in
-    (chip.fits, (chip.sound, tt))
+    record { fits = chip.fits; sound = chip.sound }
 
 pub returns-then-place-self : goal.returns-then-place-self
 returns-then-place-self c =

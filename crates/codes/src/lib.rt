@@ -1,4 +1,5 @@
 //! The numbers of the host line's protocol, as enums.
+#![tactic(auto)]
 
 mod code;
 mod command;

@@ -1,4 +1,5 @@
 //! Bytes written as pairs of hexadecimal digits, 0 to 9 and A to F.
+#![tactic(auto)]
 
 ghost use Rattle.std.specs.Prelude.{◌≡◌, ◌+◌, ◌*◌, ◌/◌, ◌^◌, ◌<◌, ◌++◌, length, IfOk, IfErr, Ok, vec_len, vec_capacity, MatchResult, OnErr, OnOk};
 ghost use Rattle.digits.specs.Digits.{Because, byte_from, digit_from, digit_of, digit_value, hex_bytes, hex_text};

@@ -1,4 +1,5 @@
 //! Reads captured frames from standard input, a line of hexadecimal digits each, and tells what each asks.
+#![tactic(auto)]
 
 mod capture;
 mod options;

@@ -1,5 +1,5 @@
 -- IDs and ranges in Param.
-use Rattle.std.specs.Prelude.{ℕ, ◌/◌, ◌%◌, Bool, cond, not, ◌&&◌, Some, None, Option, ◌==◌, nat_le}
+use Rattle.std.specs.Prelude.{ℕ, ◌/◌, ◌%◌, Bool, cond, ◌&&◌, Some, None, Option, ◌==◌, nat_le}
 use Rattle.search.specs.Ids.{within}
 use Rattle.search.specs.declared.allowed.IdRange.{IdRange}
 

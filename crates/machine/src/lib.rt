@@ -1,4 +1,5 @@
 //! The machine: what a module is, and what each call makes of it. Its definitions stand in `specs/`.
+#![tactic(auto)]
 
 mod enrollment;
 mod level;

@@ -1,4 +1,5 @@
 //! Worked examples of the whole machine, in one fact.
+#![tactic(auto)]
 
 ghost use Rattle.marked.specs.Marked.{MarkedCases};
 

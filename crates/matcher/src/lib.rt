@@ -1,4 +1,5 @@
 //! Matchers, by what they mean, and how strict they are asked to be.
+#![tactic(auto)]
 
 mod level;
 mod matching;

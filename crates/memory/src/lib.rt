@@ -1,4 +1,5 @@
 //! A template memory, by what it means: the list of the templates that it holds.
+#![tactic(auto)]
 
 ghost use Rattle.std.specs.Prelude.{◌≡◌, ℕ, ◌≤◌, List, [], length, nat_lt};
 ghost use Rattle.memory.specs.Held.{Held, Sound, add_after, add_answer, copy_after, copy_answer, id_at, remove_after};

@@ -1,4 +1,5 @@
 //! The packets of the host line, read and written.
+#![tactic(auto)]
 
 mod around;
 mod behind;

@@ -1,4 +1,5 @@
 //! A template memory over the bytes of a chip: each template has a page of its own, which it never leaves.
+#![tactic(auto)]
 
 ghost use Rattle.std.specs.Prelude.{◌≡◌, [], length, nat_lt};
 ghost use Rattle.memory.specs.Held.{add_after, add_answer, remove_after};

@@ -1,4 +1,5 @@
 //! The point matcher: a scan agrees with a stored template if enough of its points lie near stored ones.
+#![tactic(auto)]
 
 mod matching;
 mod point;

@@ -55,7 +55,7 @@ use Rattle.search.specs.Ids.{count_of, place_of}
 use Rattle.std.specs.Str.{bytes_eq}
 use Rattle.machine.specs.Administrators.{any_admin, is_admin, level_of, may_delete, may_enroll, struck}
 use Rattle.machine.specs.Answers.{Step, answer_data, go, just, outcome, tell}
-use Rattle.machine.specs.Enrollment.{adds, enroll_id, enrolled, looks_up}
+use Rattle.machine.specs.Enrollment.{enroll_id, enrolled, looks_up}
 use Rattle.machine.specs.Ids.{is_id, range_of}
 use Rattle.machine.specs.Machine.{Call, Event, asked, heard, next_of, on_event, requested, step_of}
 use Rattle.machine.specs.Machine.Event.{packet, finger, second}

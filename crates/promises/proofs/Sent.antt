@@ -258,7 +258,7 @@ module _ (s : State) (sound : All (Sound s.size) s.held) (q : RequestParts) (rea
   on-known Enroll k =
       on-enroll Host false (templates_in s.settings.enroll) (λ e. wait_for s q (first_finger e)) (λ e. waits (first_finger e))
   on-known EnrollTemplate k =
-      by-test Proper (not (eqb (length q.«data») s.size)) _ _ (λ _. fails Unsupported) (λ _. on-enroll Host false 1 (enroll_now s q) on-now)
+      by-test Proper (not (eqb q.size s.size)) _ _ (λ _. fails Unsupported) (λ _. on-enroll Host false 1 (enroll_now s q) on-now)
   on-known Verify k =
       by-test Proper (not (is_id q.param)) _ _ (λ _. fails InvalidId)
       (λ _. by-test Proper (eqb (count_of q.param s.held) 0) _ _ (λ _. fails NotFound) (λ _. waits (person_to_verify q.param)))
@@ -287,12 +287,12 @@ module _ (s : State) (sound : All (Sound s.size) s.held) (q : RequestParts) (rea
       by-given Proper (range_of q.param) _ _ (fails InvalidId) (λ range.
       by-test Proper (not (any_admin may_delete s.admins)) _ _ (λ _. fails Unsupported) (λ _. waits (grant_to_delete range)))
   on-known Unlock k =
-      by-test Proper (not (eqb (length q.«data») 18)) _ _ (λ _. fails Unsupported) (λ _.
+      by-test Proper (not (eqb q.size 18)) _ _ (λ _. fails Unsupported) (λ _.
       by-test Proper (not (sum_right 0 q.«data»)) _ _ (λ _. fails TryAgain) (λ _.
       by-test Proper (bytes_eq (password_at 0 q.«data») s.password) _ _ (λ _. plain _ 0 Success) (λ _. fails NotMatch)))
   on-known Lock k = plain _ 0 Success
   on-known ChangePassword k =
-      by-test Proper (not (eqb (length q.«data») 36)) _ _ (λ _. fails Unsupported) (λ _.
+      by-test Proper (not (eqb q.size 36)) _ _ (λ _. fails Unsupported) (λ _.
       by-test Proper (not (sum_right 0 q.«data» && sum_right 18 q.«data»)) _ _ (λ _. fails TryAgain) (λ _.
       by-test Proper (bytes_eq (password_at 0 q.«data») s.password) _ _ (λ _. plain _ 0 Success) (λ _. fails NotMatch)))
 

@@ -1,5 +1,5 @@
 -- The promises: what holds after every list of calls from a module's making on.
-use Rattle.std.specs.Prelude.{◌≡◌, ℕ, ◌+◌, ◌-◌, ◌≤◌, Bool, true, ◌&&◌, ◌||◌, ◌⊎◌, List, [], ◌∷◌, map, length, Ok, Err, count_by, Option, Result, nat_eq}
+use Rattle.std.specs.Prelude.{◌≡◌, ℕ, ◌+◌, ◌≤◌, Bool, true, ◌&&◌, ◌||◌, ◌⊎◌, List, [], ◌∷◌, map, length, Ok, Err, count_by, Option, Result, nat_eq}
 use Rattle.codes.specs.declared.command.Command.{Command}
 use Rattle.codes.specs.declared.command.Command.TheVariants.{EnrollByAdministrator, DeleteByAdministrator}
 use Rattle.codes.specs.declared.numbered.Coded.{Coded}

@@ -1,4 +1,5 @@
 //! The laws of whole runs of the machine.
+#![tactic(auto)]
 
 ghost use Rattle.promises.specs.Locked.{LockedAlike, LockedIdle};
 ghost use Rattle.promises.specs.Promises.{AlwaysPromised};

@@ -1,4 +1,5 @@
 //! A template memory that keeps its templates as rows in the bytes of a chip.
+#![tactic(auto)]
 
 ghost use Rattle.std.specs.Prelude.{◌≡◌, ℕ, ◌≤◌, List, [], length};
 ghost use Rattle.row_memory.specs.Rows.{AllSound, capacity_of, rows_in};

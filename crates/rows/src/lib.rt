@@ -1,4 +1,5 @@
 //! Rows of a table, found and struck by a key of two bytes.
+#![tactic(auto)]
 
 ghost use Rattle.std.specs.Prelude.{◌≡◌, ℕ, ◌<◌, cond, length, is_some, IfSome};
 ghost use Rattle.rows.specs.Rows.{place_of, struck};

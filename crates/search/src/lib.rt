@@ -1,4 +1,5 @@
 //! Searches over any memory and any matcher.
+#![tactic(auto)]
 
 mod allowed;
 mod ids;

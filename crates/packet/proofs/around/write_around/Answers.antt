@@ -1,4 +1,4 @@
-use Rattle.std.proofs.Common.{◌+◌, ap, arith}
+use Rattle.std.proofs.Common.{◌+◌, arith}
 use Rattle.packet.proofs.Standing.{no-room-around, room-around}
 use Rattle.packet.proofs.around.write_around.Goals as goal
 

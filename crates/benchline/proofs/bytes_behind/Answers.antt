@@ -18,7 +18,7 @@ pub returns-in_err-read_hex_into : goal.returns-in_err-read_hex_into
 returns-in_err-read_hex_into c =
     let whole = blank-led (goal.at.returns-in_err-read_hex_into c).In-32 in
     let h = c.in_err-read_hex_into.ensures in
-    let p = err_from_is_err_and c.from-residual.result c.from-residual.ensures.1 in
+    let p = err_from_is_err_and c.from_residual.result c.from_residual.ensures.1 in
     rw (p.1, p.2) (record {
       value = digits-fault _ _ _ (ap bytes_behind (sym whole)) h.value;
       back = tt;

@@ -17,7 +17,7 @@ pub returns-in_err-bytes_behind : goal.returns-in_err-bytes_behind
 returns-in_err-bytes_behind c =
     let whole = letter-led (goal.at.returns-in_err-bytes_behind c).After-from letter_p c.in-P.is in
     let b = c.in_err-bytes_behind.ensures in
-    let p = err_from_is_err_and c.from-residual.result c.from-residual.ensures.1 in
+    let p = err_from_is_err_and c.from_residual.result c.from_residual.ensures.1 in
     rw (p.1, p.2) (record {
       value = fault-of _ _ _ (λ e. ap bench_line (sym whole) ∙ ap (option_map packet) e) b.value;
       back = tt;
@@ -28,7 +28,7 @@ pub returns-in_err-bytes_behind-2 : goal.returns-in_err-bytes_behind-2
 returns-in_err-bytes_behind-2 c =
     let whole = letter-led (goal.at.returns-in_err-bytes_behind-2 c).After-from letter_f c.in-F.is in
     let b = c.in_err-bytes_behind-2.ensures in
-    let p = err_from_is_err_and c.from-residual-in_err-bytes_behind-2.result c.from-residual-in_err-bytes_behind-2.ensures.1 in
+    let p = err_from_is_err_and c.from_residual-in_err-bytes_behind-2.result c.from_residual-in_err-bytes_behind-2.ensures.1 in
     rw (p.1, p.2) (record {
       value = fault-of _ _ _ (λ e. ap bench_line (sym whole) ∙ ap finger_of e) b.value;
       back = tt;

@@ -8,7 +8,7 @@ invariant_of-self c =
     let s =
     strikes t c.args.id c.strike.new.rows (t.count - 0) (omega arith) c.strike.ensures.after c.strike.auto.rows
     c.if-strike.ensures.value in
-    (s.0, (omega (arith, t.within), (s.1, tt)))
+    record { long = s.0; within = omega (arith, t.within); distinct = s.1 }
 
 pub invariant_of-self-else-strike : goal.invariant_of-self-else-strike
 invariant_of-self-else-strike c =
@@ -16,7 +16,7 @@ invariant_of-self-else-strike c =
     let s =
     leaves t c.args.id c.strike.new.rows (t.count - 0) (omega arith) c.strike.ensures.after c.strike.auto.rows
     c.if-strike.ensures.value in
-    (s.0, (t.within, (s.1, tt)))
+    record { long = s.0; within = t.within; distinct = s.1 }
 
 pub returns-then-strike : goal.returns-then-strike
 returns-then-strike c =

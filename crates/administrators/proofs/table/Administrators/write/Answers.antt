@@ -12,13 +12,13 @@ invariant_of-self c =
     let s =
     one-changed t c.args.id c.in-Some.at c.in-Some.ensures.value _ c.args.level c.set_level.new.self
     c.set_level.ensures in
-    (s.0, (t.within, (s.1, tt)))
+    record { long = s.0; within = t.within; distinct = s.1 }
 
 pub invariant_of-self-then-self-lt-ROWS : goal.invariant_of-self-then-self-lt-ROWS
 invariant_of-self-then-self-lt-ROWS c =
     let s =
     one_more c.args.self.now (record { id = c.args.id; level = c.args.level }) c.in-None.ensures.value c.if-self-lt-ROWS.true in
-    (s.0, (omega arith, (s.1, tt)))
+    record { long = s.0; within = omega arith; distinct = s.1 }
 
 pub returns-in-Some : goal.returns-in-Some
 returns-in-Some c =

@@ -3,7 +3,7 @@
 ghost use Rattle.std.specs.Prelude.{◌≡◌, ◌/◌, ◌<◌, [], ◌∷◌, length, IfOk, IfErr, Some, None, vec_capacity, codes, MatchResult};
 ghost use Rattle.benchline.specs.Lines.{Because, bench_line, blank, bytes_behind, finger, from_digits, line_text, packet, second, seen};
 ghost use Rattle.digits.specs.Digits.{hex_text};
-ghost use Rattle.std.specs.List.{AllByRecursion as All};
+ghost use Rattle.std.specs.List.{AllByRecursion};
 
 use digits::read_hex_into;
 
@@ -88,7 +88,7 @@ pub fn marked_lines()
         × (bench_line (codes "F 64") ≡ Some (finger 100 []))
         × (bench_line (codes "F 640A0B") ≡ Some (finger 100 (10 ∷ 11 ∷ [])))
         × (bench_line (codes "S") ≡ Some second) }
-    ensures wrong { All (λ line. bench_line line ≡ None)
+    ensures wrong { AllByRecursion (λ line. bench_line line ≡ None)
         ([] ∷ codes "P" ∷ codes "F " ∷ codes "P 4" ∷ codes "P 4f" ∷ codes "P4F" ∷ codes "P  4F" ∷ codes "P 4F "
         ∷ codes "F 64 0A" ∷ codes "S " ∷ codes "s" ∷ codes "R" ∷ (80 ∷ 9 ∷ codes "4F") ∷ (83 ∷ 13 ∷ []) ∷ []) }
 {}

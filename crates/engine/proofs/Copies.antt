@@ -2,12 +2,12 @@
 use Rattle.std.proofs.Common.{◌≡◌, ℕ, ◌<◌, ◌≤◌, List, [], ◌++◌, length, drop, unwrap_or, sym, refl, ap, ◌∙◌, ⊎_elim, arith}
 use Rattle.memory.specs.Held.{Held, Sound, copy_after, copy_answer, held_at, none}
 use Rattle.memory.proofs.Cases.{copy-past, copy-there}
-use Rattle.std.specs.List.{AllByRecursion as All}
+use Rattle.std.specs.List.{AllByRecursion}
 use Rattle.std.proofs.ByRecursion.{All-get_or}
 use Rattle.std.proofs.lemmas.List.{get_or_past}
 use Rattle.std.proofs.lemmas.Bool.{cases_lt}
 
-pub copied : (size : ℕ) (h : List Held) (place : ℕ) (out after : List ℕ) (n : ℕ) → All (Sound size) h
+pub copied : (size : ℕ) (h : List Held) (place : ℕ) (out after : List ℕ) (n : ℕ) → AllByRecursion (Sound size) h
     → length (held_at h place).template ≤ length out → n ≡ unwrap_or (copy_answer size h place out) 0 → after ≡ copy_after size h place out
     → (n ≡ length (held_at h place).template) × (after ≡ (held_at h place).template ++ drop n out)
 copied size h place out after n sound fits e f = ⊎_elim there past (cases_lt place (length h))

@@ -20,13 +20,13 @@ use Rattle.packet.specs.declared.response.Outcome.{Outcome}
 use Rattle.packet.proofs.Writes.{length-bare, length-packet, lent-on}
 use Rattle.promises.proofs.Sent.{length_ids, proper-reads}
 use Rattle.promises.specs.Sent.{FittingSaid, sent_of}
-use Rattle.std.specs.List.{AllByRecursion as All}
+use Rattle.std.specs.List.{AllByRecursion}
 use Rattle.std.proofs.ByRecursion.{All-get_or}
 use Rattle.std.proofs.lemmas.List.{append_assoc, append-nil, drop_at, drop-drop, get_or_past, length-append, length-drop, length-take-le, take-append-drop, take_at}
 use Rattle.std.proofs.lemmas.Bool.{cases_Bool, cases_lt, le-leb}
 
 -- bytes that stand at the front are what was said
-pub wrote : (own : ℕ) (ys : List Said) (bs before after : List ℕ) (n : ℕ) → own < 2 ^ 16 → All FittingSaid ys → bytes_of own ys ≡ bs
+pub wrote : (own : ℕ) (ys : List Said) (bs before after : List ℕ) (n : ℕ) → own < 2 ^ 16 → AllByRecursion FittingSaid ys → bytes_of own ys ≡ bs
     → n ≡ length bs → after ≡ bs ++ drop (length bs) before → Wrote own ys before after n
 wrote own ys bs before after n small fit same e f =
     let front : take n after ≡ bytes_of own ys = ap (take n) f ∙ take_at bs (drop (length bs) before) n (sym e) ∙ sym same in
@@ -108,7 +108,7 @@ place own to o at e = by to (carries o) refl e
             }
 
 -- how long data is: at most four bytes for each of 500 templates
-pub short-data : (size room : ℕ) (h : List Held) (d : Data) → size ≤ 384 → length h ≤ room → room ≤ 500 → All (Sound size) h → length (data_in h d) ≤ 2000
+pub short-data : (size room : ℕ) (h : List Held) (d : Data) → size ≤ 384 → length h ≤ room → room ≤ 500 → AllByRecursion (Sound size) h → length (data_in h d) ≤ 2000
 short-data size room h (Ids from most) small l r sound =
     omega (arith, length_ids (block_of from most h), block-length from most h)
 short-data size room h (Template place) small l r sound =

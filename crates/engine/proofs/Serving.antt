@@ -19,7 +19,7 @@ use Rattle.promises.proofs.Sent.{said-proper}
 use Rattle.promises.proofs.Ways.{never}
 use Rattle.promises.specs.Calls.{Keeps}
 use Rattle.promises.specs.Runs.{answered as answered_in}
-use Rattle.std.specs.List.{AllByRecursion as All}
+use Rattle.std.specs.List.{AllByRecursion}
 use Rattle.std.proofs.lemmas.Bool.{le-ltb, lt-ltb}
 
 -- buffers that are long enough
@@ -44,7 +44,7 @@ module _ (v : State) (c : Call) (w : State) (s : step_of v c ≡ on_event v c.ev
       subst P same (refusing v c e p)
 
   pub answered : (a : Answers) (os : Outcomes) (n : ℕ) (after : List ℕ) → Heard v c.event (Ok a) w
-      → Wrote v.own (said_in w.held a) c.out after n → listed os ≡ map (λ y. y.outcome) (said_in w.held a) → All (Sound v.size) v.held
+      → Wrote v.own (said_in w.held a) c.out after n → listed os ≡ map (λ y. y.outcome) (said_in w.held a) → AllByRecursion (Sound v.size) v.held
       → Shows v c.event (step_of v c) (Ok (record { outcomes = os; count = n })) w c.out after
   answered a os n after k wrote seen sound =
       let p : step_of v c ≡ Ok (went w a) = s ∙ sym k.step in

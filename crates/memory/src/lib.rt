@@ -3,14 +3,14 @@
 
 ghost use Rattle.std.specs.Prelude.{◌≡◌, ℕ, ◌≤◌, List, [], length, nat_lt};
 ghost use Rattle.memory.specs.Held.{Held, Sound, add_after, add_answer, copy_after, copy_answer, id_at, remove_after};
-ghost use Rattle.std.specs.List.{AllByRecursion as All};
+ghost use Rattle.std.specs.List.{AllByRecursion};
 
 /// Why a template is not added.
 #[derive(Clone, Copy, PartialEq, Eq, Debug)]
 pub enum NotAdded {
     /// The ID is 0, or the template has another length than the memory's.
     Malformed,
-    /// All places are taken.
+    /// AllByRecursion places are taken.
     Full,
 }
 
@@ -73,5 +73,5 @@ pub trait Memory {
 
     ghost within: { (s : Self) → (length (held s) ≤ room s) × (room s ≤ 500) };
 
-    ghost sound: { (s : Self) → All (Sound size) (held s) };
+    ghost sound: { (s : Self) → AllByRecursion (Sound size) (held s) };
 }

@@ -1,7 +1,7 @@
 -- The templates, as the first records of the directory list them.
 use Rattle.std.specs.Prelude.{◌≡◌, ℕ, ◌+◌, ◌*◌, ◌<◌, ◌≤◌, List, map, length, take, drop, slice_index_or}
 use Rattle.std.proofs.Common.{ap, ◌∙◌, arith}
-use Rattle.std.specs.List.{AllByRecursion as All}
+use Rattle.std.specs.List.{AllByRecursion}
 use Rattle.std.proofs.lemmas.List.{length-drop, length-map, length-take-le, get_or-map, get_or-take}
 use Rattle.std.proofs.ByRecursion.{All-from_get_or}
 use Rattle.memory.specs.Held.{Sound, none}
@@ -36,7 +36,7 @@ module _ (m : PageMemory) where
   pub held-within : (length (held_by m) ≤ room_of m) × (room_of m ≤ 500)
   held-within = let l = held-length in let a = m.filed.1 in (omega arith, omega arith)
 
-  pub held-sound : All (Sound 256) (held_by m)
+  pub held-sound : AllByRecursion (Sound 256) (held_by m)
   held-sound =
       All-from_get_or (Sound 256) (held_by m) none
       (λ k l. let n = held-length in let i : k < m.count = omega arith in let w = m.filed.2 k i in

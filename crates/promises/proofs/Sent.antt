@@ -58,7 +58,7 @@ use Rattle.packet.specs.Responses.{reply_form}
 use Rattle.packet.specs.Trips.{AsRead, Belongs}
 use Rattle.search.specs.Ids.{count_of, place_from, place_of}
 use Rattle.std.proofs.ByRecursion.{All-get_or}
-use Rattle.std.specs.List.{flat_map, AllByRecursion as All}
+use Rattle.std.specs.List.{flat_map, AllByRecursion}
 use Rattle.std.specs.Str.{bytes_eq}
 use Rattle.machine.specs.Administrators.{any_admin, is_admin, level_of, may_delete, may_enroll}
 use Rattle.machine.specs.Answers.{Said, Step, answer_data, bytes_of, go, just, tell}
@@ -93,7 +93,7 @@ use Rattle.promises.proofs.Reading.{by-frame}
 use Rattle.promises.proofs.Ways.{by-given, by-test, by-unless, given-some, some-none}
 
 record Proper (x : Step) : Type 0 where
-  all : All ProperSaid x.said
+  all : AllByRecursion ProperSaid x.said
 
 -- no data belongs where Size is 0, and behind an outcome that carries none
 none-belongs : (b : Bool) → Belongs b 0 []
@@ -128,7 +128,7 @@ tells w param size code = record {
 
 -- a finger, while something waits
 module _ (s : State) (w : Waiting) (scan : List ℕ) (quality : ℕ) where
-  scans : (on : Switch) (t : State) (xs : List Said) → All ProperSaid xs → Proper (go t (scanned on w xs))
+  scans : (on : Switch) (t : State) (xs : List Said) → AllByRecursion ProperSaid xs → Proper (go t (scanned on w xs))
   scans Off t xs a = record { all = a }
   scans On t xs a = record { all = (tells w 0 0 ScanSuccess, a) }
 
@@ -208,7 +208,7 @@ place_inside from id number (x ∷ h) place e =
     at false b e f g = omega (arith, g e)
 
 -- a packet was accepted: the request `q`, of a module over a sound memory
-module _ (s : State) (sound : All (Sound s.size) s.held) (q : RequestParts) (read : AsRead q.command) where
+module _ (s : State) (sound : AllByRecursion (Sound s.size) s.held) (q : RequestParts) (read : AsRead q.command) where
   plain : (t : State) (param : ℕ) (code : Code) → Proper (go t (answer_data q param 0 code []))
   plain t param code = record { all = (record { as_read = read; data_belongs = none-belongs _ }, tt) }
 
@@ -323,10 +323,10 @@ command-read mode own frame =
     mode own frame
 
 abbrev ProperIf : Result Step Refusal → Type 0
-ProperIf (Ok x) = All ProperSaid x.said
+ProperIf (Ok x) = AllByRecursion ProperSaid x.said
 ProperIf (Err e) = Unit {0}
 
-module _ (s : State) (sound : All (Sound s.size) s.held) where
+module _ (s : State) (sound : AllByRecursion (Sound s.size) s.held) where
   on-heard : (r : Result RequestParts Refusal) → CommandRead r → ProperIf (heard s r)
   on-heard (Ok q) c = (on-requested s sound q c).all
   on-heard (Err e) c = tt

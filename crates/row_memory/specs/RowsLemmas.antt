@@ -3,7 +3,7 @@ use Rattle.std.specs.Prelude.{◌≡◌, ℕ, suc, ◌+◌, ◌-◌, ◌*◌, �
 use Rattle.std.proofs.Common.{sym, ap, ◌∙◌, ⊎_elim, arith}
 use Rattle.std.proofs.Math.Numerals.{towards_numerals}
 use Rattle.std.specs.Vec.{with_items}
-use Rattle.std.specs.List.{remove, AllByRecursion as All}
+use Rattle.std.specs.List.{remove, AllByRecursion}
 use Rattle.std.proofs.lemmas.List.FromFn.{length-map-range_with_len, get_or-map-range_with_len, map-range_with_len_more}
 use Rattle.std.proofs.lemmas.List.Edits.{length-paste, paste_all, length-remove, get_or-remove_below, get_or-remove_above}
 use Rattle.std.proofs.ByRecursion.{All-append, All-drop, All-from_get_or, All-get_or, All-push, All-take}
@@ -19,10 +19,10 @@ pub row-there : (bs : List ℕ) (n k : ℕ) (d : Held) → k < n → slice_index
 row-there bs n k d h = get_or-map-range_with_len (λ k. held_in (row_at bs k)) 0 n k k d h (omega arith)
 
 -- the counted rows are sound, one by one and all together
-pub all_sound : (bs : List ℕ) (n : ℕ) → AllSound bs n → All (Sound 384) (rows_in bs n)
+pub all_sound : (bs : List ℕ) (n : ℕ) → AllSound bs n → AllByRecursion (Sound 384) (rows_in bs n)
 all_sound bs n sound = let m = rows-length bs n in All-from_get_or (Sound 384) (rows_in bs n) none (λ k l. sound k (omega arith))
 
-each-sound : (bs : List ℕ) (n : ℕ) → All (Sound 384) (rows_in bs n) → AllSound bs n
+each-sound : (bs : List ℕ) (n : ℕ) → AllByRecursion (Sound 384) (rows_in bs n) → AllSound bs n
 each-sound bs n all k l = let m = rows-length bs n in All-get_or (Sound 384) (rows_in bs n) k none (omega arith) all
 
 same-capacity : (cs bs : List ℕ) → length cs ≡ length bs → capacity_of cs ≡ capacity_of bs

@@ -1,7 +1,7 @@
 -- The steps of searches and counts, place by place.
 use Rattle.std.proofs.Common.{◌≡◌, ℕ, ◌+◌, ◌-◌, ◌<◌, ◌≤◌, Bool, true, false, cond, ◌&&◌, eqb, List, [], ◌∷◌, ◌++◌, map, length, get_or, take, drop, set, Some, None, count_by, sym, refl, ap, ◌∙◌}
 use native.Mathlib.Nat.{sub-zero}
-use Rattle.std.specs.List.{AllByRecursion as All}
+use Rattle.std.specs.List.{AllByRecursion}
 use Rattle.std.proofs.lemmas.List.{take_at, take_more, take_more_set, drop_more, at_drop_all, map_more}
 use Rattle.std.proofs.ByRecursion.{All-get_or}
 use Rattle.std.proofs.lemmas.List.Sums.{sum_by-cons, count_by_more_yes, count_by_more_no}
@@ -17,7 +17,7 @@ module _ (h : List Held) (place : ℕ) (inside : place < length h) where
   id-is id e = cc (id_there h place inside)
 
   -- what was copied is the template
-  pub copied : (size : ℕ) (work after : List ℕ) → size ≤ length work → All (Sound size) h → after ≡ copy_after size h place work
+  pub copied : (size : ℕ) (work after : List ℕ) → size ≤ length work → AllByRecursion (Sound size) h → after ≡ copy_after size h place work
       → (n : ℕ) → Some n ≡ copy_answer size h place work → take (n - 0) after ≡ (held_at h place).template
   copied size work after fits sound e n f =
       let c = copy-there h place size work inside fits in

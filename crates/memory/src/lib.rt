@@ -10,7 +10,7 @@ ghost use Rattle.std.specs.List.{AllByRecursion};
 pub enum NotAdded {
     /// The ID is 0, or the template has another length than the memory's.
     Malformed,
-    /// AllByRecursion places are taken.
+    /// All places are taken.
     Full,
 }
 

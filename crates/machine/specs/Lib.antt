@@ -8,4 +8,5 @@ pub mod Enrollment
 pub mod Requests
 pub mod Waiting
 pub mod Machine
+pub mod Ready
 pub mod Tried

@@ -1,4 +1,4 @@
-use Rattle.std.specs.Prelude.{ℕ, Bool, true, cond, ◌||◌, List, length, Ok, Err, Result, ◌==◌}
+use Rattle.std.specs.Prelude.{ℕ, Bool, true, cond, not, ◌||◌, List, length, Ok, Err, Result, ◌==◌}
 use Rattle.codes.specs.declared.command.Command.{Command}
 use Rattle.codes.specs.declared.network.NetworkMode.{NetworkMode}
 use Rattle.codes.specs.declared.numbered.Coded.{Coded}
@@ -23,6 +23,10 @@ pub record RequestParts : Type 0 where
 
 abbrev pub request_parts : Request → RequestParts
 request_parts q = record { form = q.form; command = q.command; param = q.param; size = q.size; flag = q.flag; «data» = q.«data».now }
+
+-- a request whose command carries data has as much as Size says
+abbrev pub has_data : RequestParts → Bool
+has_data q = not (asks_with_data q.command) || length q.«data» == q.size
 
 abbrev pub seen_request : Result Request Refusal → Result RequestParts Refusal
 seen_request (Ok q) = Ok (request_parts q)

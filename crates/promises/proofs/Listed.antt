@@ -1,5 +1,5 @@
 -- Held templates and administrators' rows, against the tally's list of IDs.
-use Rattle.std.proofs.Common.{◌≡◌, ℕ, suc, ◌+◌, ◌-◌, ◌≤◌, Bool, true, false, cond, not, ◌&&◌, ◌||◌, eqb, ltb, List, [], ◌∷◌, ◌++◌, map, length, replicate, is_some, Some, None, count_by, Option, sym, refl, ap, ◌∙◌, arith}
+use Rattle.std.proofs.Common.{◌≡◌, ℕ, suc, ◌+◌, ◌-◌, ◌<◌, ◌≤◌, Bool, true, false, cond, not, ◌&&◌, ◌||◌, eqb, ltb, List, [], ◌∷◌, ◌++◌, map, length, replicate, is_some, Some, None, count_by, Option, sym, refl, ap, ◌∙◌, arith}
 use Rattle.codes.specs.Flags.{flag_number}
 use Rattle.codes.specs.Numbers.{case_of}
 use Rattle.codes.specs.declared.code.Code.TheVariants.{ExistId, FingerLimit, MemFull}
@@ -13,6 +13,7 @@ use Rattle.std.proofs.lemmas.List.Sums.{sum_by-cons, sum_by-append}
 use Rattle.std.proofs.lemmas.Bool.Decides.{nat_tests}
 use Rattle.machine.specs.Administrators.{changed, level_of, struck}
 use Rattle.machine.specs.Enrollment.{adds, enroll_fault, enroll_id, needs_none, staying}
+use Rattle.machine.specs.Ids.{is_id}
 use Rattle.machine.specs.Searches.{without}
 use Rattle.machine.specs.State.{State}
 use Rattle.machine.specs.declared.level.AdminRow.{AdminRow}
@@ -230,6 +231,7 @@ found-allowed ok agree older (e ∷ h) = at (ok e.id) refl (agree e.template) (f
 
 -- there is room for so many new templates of an ID
 pub record Fits (room : ℕ) (h : List Held) (flag : EnrollFlag) (id needed : ℕ) : Type 0 where
+  pub some_id : 0 < id
   pub free : needed ≤ room - length h
   pub ten : count_of id (staying flag id h) + needed ≤ 10
 
@@ -277,8 +279,19 @@ none_yet n needed l e = omega arith
 
 pub fits : (s : State) (flag : EnrollFlag) (param id needed : ℕ) → needed ≤ 2 → enroll_id s flag param ≡ Some id
     → enroll_fault s flag id needed ≡ None → Fits s.room s.held flag id needed
-fits s flag param id needed few i e = record { free = free; ten = at flag i p }
+fits s flag param id needed few i e = record { some_id = some flag i; free = free; ten = at flag i p }
   where
+    in_param : (b : Bool) → is_id param ≡ b → cond b (Some param) None ≡ Some id → 0 < id
+    in_param true q e = let z : param ≡ id = cc in grind (arith, nat_tests)
+    in_param false q e = absurd (let z : ◌≡◌ {A = ℕ} 0 1 = cc in omega arith)
+
+    some : (f : EnrollFlag) → enroll_id s f param ≡ Some id → 0 < id
+    some Replace i = in_param (is_id param) refl i
+    some CheckId i = in_param (is_id param) refl i
+    some AddNew i = in_param (is_id param) refl i
+    some AutoId i = let z : lowest_free s.held ≡ id = cc in omega (arith, (lowest-free s.held).some_id)
+    some CheckFinger i = in_param (is_id param) refl i
+
     p : Passed (needs_none flag && not (eqb (count_of id s.held) 0)) (adds flag && ltb 10 (count_of id s.held + needed))
         (ltb (s.room - length s.held) needed)
     p = passed _ _ _ e

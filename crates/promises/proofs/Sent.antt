@@ -319,7 +319,7 @@ CommandRead (Err e) = Unit {0}
 
 command-read : (mode : NetworkMode) (own : ℕ) (frame : List ℕ) → CommandRead (read_request mode own frame)
 command-read mode own frame =
-    by-frame CommandRead tt tt tt tt tt tt (λ form n param size flag bs. ap (coded command_number commands) (byte-back command_number commands n))
+    by-frame CommandRead tt tt tt tt tt tt (λ form n param size flag bs whole. ap (coded command_number commands) (byte-back command_number commands n))
     mode own frame
 
 abbrev ProperIf : Result Step Refusal → Type 0

@@ -62,6 +62,7 @@ use Rattle.machine.specs.Enrollment.{enroll_id, enrolled, looks_up, staying}
 use Rattle.machine.specs.Ids.{is_id, range_of}
 use Rattle.machine.specs.Machine.{Call, Event, asked, heard, next_of, on_event, requested, step_of}
 use Rattle.machine.specs.Machine.Event.{packet, finger, second}
+use Rattle.machine.specs.Ready.{CanEnroll, ReadyAt, ReadyIn}
 use Rattle.machine.specs.Requests.{Wanted, enroll, enroll_now, known, level_in, levelled, parameter_value, password_at, started, sum_right, wait_for}
 use Rattle.machine.specs.Requests.Wanted.{no_level, wanted}
 use Rattle.machine.specs.Searches.{agrees, any_agrees, found_by, found_in, found_one, without}
@@ -157,6 +158,23 @@ RoomIn room h needed (Some w) = RoomAt room h needed w.phase
 
 abbrev pub Roomy : State → Option Waiting → Type 0
 Roomy s w = RoomIn s.room s.held (templates_in s.settings.enroll) w
+
+-- so it can be carried out
+can-enroll : (s : State) (e : Enrollment) → RoomFor s e → CanEnroll s e
+can-enroll s e f = record { some_id = f.some_id; places = f.free }
+
+pub ready_in : (s : State) (w : Option Waiting) → Roomy s w → ReadyIn s w
+ready_in s None r = tt
+ready_in s (Some w) r = at w.phase r
+  where
+    at : (p : Phase) → RoomAt s.room s.held (templates_in s.settings.enroll) p → ReadyAt s p
+    at (grant_to_enroll e) r = can-enroll s e r
+    at (grant_to_delete range) r = tt
+    at (first_finger e) r = can-enroll s e r
+    at (second_finger e one quality) r = can-enroll s e r
+    at (person_to_verify id) r = tt
+    at (person_to_identify range) r = tt
+    at (person_to_delete range) r = tt
 
 -- the tally is what is held
 pub record Kept (ts : List Told) (s : State) : Type 0 where

@@ -1,17 +1,19 @@
 -- The promises, by induction over the calls of a run.
-use Rattle.std.proofs.Common.{◌≡◌, ℕ, ◌+◌, Bool, List, [], ◌∷◌, length, sym, refl, ap, ◌∙◌}
+use Rattle.std.proofs.Common.{◌≡◌, ℕ, ◌+◌, Bool, List, [], ◌∷◌, length, sym, refl, ap, ◌∙◌, subst}
 use Rattle.machine.specs.Machine.{Call, after}
+use Rattle.machine.specs.Ready.{Ready}
 use Rattle.machine.specs.State.{State, fresh}
 use Rattle.promises.specs.Grants.{failed_ends, grant_held, grants, in_time, one_if, uses}
 use Rattle.promises.specs.Promises.{AlwaysPromised}
 use Rattle.promises.specs.Record.{Told, record_of, told, waiter}
+use Rattle.promises.specs.Runs.{Reached}
 use Rattle.promises.proofs.Earned.{earned-in, own-stays, room-stays}
 use Rattle.promises.proofs.Ends.{same_ends}
 use Rattle.promises.proofs.Ledger.{Ledger}
 use Rattle.promises.proofs.LedgerSteps.{ledger-step}
 use Rattle.promises.proofs.Places.{one_grant as places-granted, spent_once as places-spent}
 use Rattle.promises.proofs.Sound.{sound}
-use Rattle.promises.proofs.Tallies.{Kept, kept-capacity, kept-start, kept_step, kept-ten}
+use Rattle.promises.proofs.Tallies.{Kept, kept-capacity, kept-start, kept_step, kept-ten, ready_in}
 
 module _ (agree : List ℕ → List ℕ → ℕ → Bool) (size room own : ℕ) where
   abbrev made : State
@@ -57,3 +59,11 @@ always-promised agree size room own h =
       at_most_ten = kept-ten _ _ k;
       capacity = kept-capacity _ _ k ∙ room-stays (fresh agree size room own) h;
     }
+
+-- an enrolment that waits in a module that calls have led to can be carried out
+pub reached-ready : (s : State) → Reached s → Ready s
+reached-ready s r =
+    let P : State → Type 0 = λ t. Ready t in
+    subst P (sym r.led)
+    (ready_in (after (made r.agree r.size r.room r.own) r.calls) (after (made r.agree r.size r.room r.own) r.calls).waiting
+    (kept r.agree r.size r.room r.own r.calls).ready)

@@ -1,4 +1,5 @@
 //! The table of administrators: at most 16 rows, each an ID and what it may do.
+#![tactic(auto)]
 
 ghost use Rattle.std.specs.Prelude.{◌≡◌, ◌<◌, cond, ◌||◌, [], ◌∷◌, ◌++◌, length, is_some, IfSome, nat_lt};
 ghost use Rattle.administrators.specs.Rights.{permits};

@@ -11,6 +11,7 @@ use Rattle.search.specs.Ids.{count_of, lowest_free}
 use Rattle.search.specs.Oldest.{oldest_from, passes}
 use Rattle.std.proofs.lemmas.List.Sums.{sum_by-cons, sum_by-append}
 use Rattle.std.proofs.lemmas.Bool.Decides.{nat_tests}
+use Rattle.machine.proofs.Enrolled.{length-without}
 use Rattle.machine.specs.Administrators.{changed, level_of, struck}
 use Rattle.machine.specs.Enrollment.{adds, enroll_fault, enroll_id, needs_none, staying}
 use Rattle.machine.specs.Ids.{is_id}
@@ -50,14 +51,6 @@ ids-without id (e ∷ h) = at (eqb e.id id) (ids-without id h)
         → ids (cond b (without id h) (e ∷ without id h)) ≡ cond b (strike id (ids h)) (e.id ∷ strike id (ids h))
     at true r = r
     at false r = ap (λ l. e.id ∷ l) r
-
-pub length_without : (id : ℕ) (h : List Held) → length (without id h) ≤ length h
-length_without id [] = omega arith
-length_without id (e ∷ h) = at (eqb e.id id) (length_without id h)
-  where
-    at : (b : Bool) → length (without id h) ≤ length h → length (cond b (without id h) (e ∷ without id h)) ≤ suc (length h)
-    at true r = omega arith
-    at false r = omega arith
 
 pub has-struck : (id : ℕ) (xs : List ℕ) → has id (strike id xs) ≡ false
 has-struck id [] = refl
@@ -253,7 +246,7 @@ all_stay h flag id e f = record {
 pub stay : (h : List Held) (flag : EnrollFlag) (id : ℕ) → Stay h flag id
 stay h Replace id = record {
   listed = ids-without id h;
-  shorter = length_without id h;
+  shorter = length-without id h;
   fewer = λ i. count-without id i h;
   others = λ i q. ap (has i) (ids-without id h) ∙ has_kept id i q (ids h);
 }

@@ -56,6 +56,7 @@ use Rattle.packet.specs.declared.response.Outcome.{Outcome}
 use Rattle.search.specs.Ids.{count_of, place_of}
 use Rattle.std.proofs.lemmas.List.{length-append, length-map, map-append}
 use Rattle.std.specs.Str.{bytes_eq}
+use Rattle.machine.proofs.Enrolled.{length-without}
 use Rattle.machine.specs.Administrators.{any_admin, changed, if_any, is_admin, level_of, may_delete, may_enroll, struck}
 use Rattle.machine.specs.Answers.{Said, Step, answer_data, go, just, outcome, tell}
 use Rattle.machine.specs.Enrollment.{enroll_id, enrolled, looks_up, staying}
@@ -134,7 +135,7 @@ use Rattle.promises.specs.Record.{
 use Rattle.promises.specs.Record.Mark.{failure}
 use Rattle.promises.specs.Record.Owner.{nobody, owner}
 use Rattle.promises.specs.Runs.{answered}
-use Rattle.promises.proofs.Listed.{Allowed, Fits, Stay, case-number, clash, count-append, count-ids, count_under, count-without, either_way, fits, found-allowed, has_kept, has-neither, has-struck, has_there, ids, ids-under, ids-without, is-it, length_without, level-changed, level-changed-kept, level-kept, level-pushed, level-pushed-kept, level-struck, not_first, stay, under}
+use Rattle.promises.proofs.Listed.{Allowed, Fits, Stay, case-number, clash, count-append, count-ids, count_under, count-without, either_way, fits, found-allowed, has_kept, has-neither, has-struck, has_there, ids, ids-under, ids-without, is-it, level-changed, level-changed-kept, level-kept, level-pushed, level-pushed-kept, level-struck, not_first, stay, under}
 use Rattle.promises.proofs.Pending.{Detail, Pending, PendingAt}
 use Rattle.promises.proofs.Reading.{packet-there}
 use Rattle.promises.proofs.Ways.{by-fault, by-given, by-test, given-some, is-command, never}
@@ -281,7 +282,7 @@ struck-changed {ts} {s} k id =
           (λ q. ap (λ z. level_of z (struck id s.admins)) (sym (is-it id i q)) ∙ level-struck id s.admins)
           (λ q. level-kept id i q s.admins ∙ k.rows i (sym (has_kept id i q (ids s.held)) ∙ sym (ap (has i) now) ∙ h));
       ten = λ i. omega (arith, count-without id i s.held, k.ten i);
-      room = omega (arith, length_without id s.held, k.room);
+      room = omega (arith, length-without id s.held, k.room);
     }
 
 -- the level of a listed ID is another

@@ -13,10 +13,10 @@ letter-led c letter is =
     let one : 1 ≤ length c.args.line.now = omega (arith, ltb-false) in
     led-by c.args.line.now letter one (sym c.from.ensures ∙ is)
 
-pub returns-in_err-bytes_behind : goal.returns-in_err-bytes_behind
-returns-in_err-bytes_behind c =
-    let whole = letter-led (goal.at.returns-in_err-bytes_behind c).After-from letter_p c.in-P.is in
-    let b = c.in_err-bytes_behind.ensures in
+pub returns-in_err-bytes_behind-in-P : goal.returns-in_err-bytes_behind-in-P
+returns-in_err-bytes_behind-in-P c =
+    let whole = letter-led (goal.at.returns-in_err-bytes_behind-in-P c).After-from letter_p c.in-P.is in
+    let b = c.in_err-bytes_behind-in-P.ensures in
     let p = err_from_is_err_and c.from_residual.result c.from_residual.ensures.1 in
     rw (p.1, p.2) (record {
       value = fault-of _ _ _ (λ e. ap bench_line (sym whole) ∙ ap (option_map packet) e) b.value;
@@ -24,21 +24,21 @@ returns-in_err-bytes_behind c =
       room = λ e. shorter c.args.line.now _ (b.room e);
     })
 
-pub returns-in_err-bytes_behind-2 : goal.returns-in_err-bytes_behind-2
-returns-in_err-bytes_behind-2 c =
-    let whole = letter-led (goal.at.returns-in_err-bytes_behind-2 c).After-from letter_f c.in-F.is in
-    let b = c.in_err-bytes_behind-2.ensures in
-    let p = err_from_is_err_and c.from_residual-in_err-bytes_behind-2.result c.from_residual-in_err-bytes_behind-2.ensures.1 in
+pub returns-in_err-bytes_behind-in-F : goal.returns-in_err-bytes_behind-in-F
+returns-in_err-bytes_behind-in-F c =
+    let whole = letter-led (goal.at.returns-in_err-bytes_behind-in-F c).After-from letter_f c.in-F.is in
+    let b = c.in_err-bytes_behind-in-F.ensures in
+    let p = err_from_is_err_and c.from_residual-in_err-bytes_behind-in-F.result c.from_residual-in_err-bytes_behind-in-F.ensures.1 in
     rw (p.1, p.2) (record {
       value = fault-of _ _ _ (λ e. ap bench_line (sym whole) ∙ ap finger_of e) b.value;
       back = tt;
       room = λ e. shorter c.args.line.now _ (b.room e);
     })
 
-pub returns-in_ok-bytes_behind : goal.returns-in_ok-bytes_behind
-returns-in_ok-bytes_behind c =
-    let whole = letter-led (goal.at.returns-in_ok-bytes_behind c).After-from letter_p c.in-P.is in
-    let b = c.in_ok-bytes_behind.ensures in
+pub returns-in_ok-bytes_behind-in-P : goal.returns-in_ok-bytes_behind-in-P
+returns-in_ok-bytes_behind-in-P c =
+    let whole = letter-led (goal.at.returns-in_ok-bytes_behind-in-P c).After-from letter_p c.in-P.is in
+    let b = c.in_ok-bytes_behind-in-P.ensures in
     record {
       value = ap bench_line (sym whole) ∙ ap (option_map packet) b.value;
       back = ap (λ t. letter_p ∷ t) b.back ∙ whole;
@@ -48,10 +48,10 @@ returns-in_ok-bytes_behind c =
 pub returns-in-len1-up-2 : goal.returns-in-len1-up-2
 returns-in-len1-up-2 c =
     let whole = letter-led (goal.at.returns-in-len1-up-2 c).After-from letter_f c.in-F.is in
-    let bytes = c.in_ok-bytes_behind-2.field-0.now in
+    let bytes = c.in_ok-bytes_behind-in-F.field-0.now in
     let some : 1 ≤ length bytes = omega (arith, ltb-false) in
     let parts = led-by bytes (get_or bytes 0 0) some refl in
-    let b = c.in_ok-bytes_behind-2.ensures in
+    let b = c.in_ok-bytes_behind-in-F.ensures in
     record {
       value = ap bench_line (sym whole) ∙ ap finger_of (b.value ∙ ap Some (sym parts));
       back = ap (λ t. letter_f ∷ blank ∷ hex_text t) parts ∙ ap (λ t. letter_f ∷ t) b.back ∙ whole;

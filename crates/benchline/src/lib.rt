@@ -1,4 +1,5 @@
 //! A line of the bench, read as what it asks of a module.
+#![tactic(auto)]
 
 ghost use Rattle.std.specs.Prelude.{◌≡◌, ◌/◌, ◌<◌, [], ◌∷◌, length, IfOk, IfErr, Some, None, vec_capacity, codes, MatchResult};
 ghost use Rattle.benchline.specs.Lines.{Because, bench_line, blank, bytes_behind, finger, from_digits, line_text, packet, second, seen};

@@ -21,15 +21,6 @@ pub shorter : (xs : List ℕ) (room : ℕ) → room < length (behind xs) / 2 →
 shorter xs room h =
     let same : length (behind xs) ≡ length xs - 1 = ap length (take_rest xs 1) ∙ length-drop 1 xs in omega arith
 
-pub nothing : (xs : List ℕ) → length xs ≡ 0 → xs ≡ []
-nothing [] e = refl
-nothing (x ∷ xs) e = absurd (omega arith)
-
--- a fault of a part is the whole's
-pub fault-of : {X Y : Type 0} (e : Fault) (o : Option X) (p : Option Y) → (o ≡ None → p ≡ None) → Because e o → Because e p
-fault-of IllFormed o p f h = f h
-fault-of Memory o p f h = tt
-
 pub digits-fault : (e : DigitsFault) (r : Result (List ℕ) DigitsFault) (o : Option (List ℕ)) → o ≡ result_ok r
     → DigitsBecause e r → Because (from_digits e) o
 digits-fault (NoDigit at) r o s h = s ∙ ap result_ok h

@@ -1,2 +1,3 @@
 pub mod Without
 pub mod AnyHeld
+pub mod Remembering

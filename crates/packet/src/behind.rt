@@ -5,7 +5,7 @@ use crate::form::END_CODE;
 use codes::{Code, Coded, Command, Refusal};
 
 /// Whether a request of this command carries data.
-pub(crate) fn asks_with_data(command: Coded<Command>) -> bool
+pub fn asks_with_data(command: Coded<Command>) -> bool
     ensures { result ≡ asks_with_data command }
 {
     match command {

@@ -2,6 +2,7 @@
 use Rattle.std.proofs.Common.{◌≡◌, ℕ, Bool, true, false, cond, List, [], ◌∷◌, ◌++◌, length, take, is_some, Some, None, refl, ap, ◌∙◌, arith}
 use Rattle.codes.specs.declared.code.Code.{Code}
 use Rattle.codes.specs.declared.code.Code.TheVariants.{Success, Unsupported}
+use Rattle.device.proofs.Remembering.{remembering}
 use Rattle.device.specs.View.{plain, said_in, went}
 use Rattle.device.specs.declared.answers.Answers.{Answers}
 use Rattle.device.specs.declared.answers.Told.{Told}
@@ -17,21 +18,6 @@ use Rattle.std.proofs.lemmas.List.{take_all, take_at}
 use Rattle.machine.specs.declared.level.AdminRow.{AdminRow}
 use Rattle.machine.specs.declared.level.Level.{Level}
 use Rattle.memory.specs.Held.{Held}
-
--- the module over another memory and with other administrators
-abbrev pub remembering : State → ℕ → List Held → List AdminRow → State
-remembering s room h rows = record {
-  agree = s.agree;
-  size = s.size;
-  room = room;
-  held = h;
-  own = s.own;
-  locked = s.locked;
-  password = s.password;
-  settings = s.settings;
-  admins = rows;
-  waiting = s.waiting;
-}
 
 pub ends : (s v : State) (a : Answers) (t : Told) (w : Waiting) (param size : ℕ) (code : Code) → v ≡ awaiting s None
     → said_in s.held a ≡ scanned s.settings.scans w (plain t ∷ []) → plain t ≡ tell w param size code

@@ -11,10 +11,9 @@ use Rattle.search.specs.Ids.{count_of, lowest_free}
 use Rattle.search.specs.Oldest.{oldest_from, passes}
 use Rattle.std.proofs.lemmas.List.Sums.{sum_by-cons, sum_by-append}
 use Rattle.std.proofs.lemmas.Bool.Decides.{nat_tests}
-use Rattle.machine.proofs.Enrolled.{length-without}
+use Rattle.machine.proofs.Enrolled.{Passed, length-without, passed, tests-passed}
 use Rattle.machine.specs.Administrators.{changed, level_of, struck}
 use Rattle.machine.specs.Enrollment.{adds, enroll_fault, enroll_id, needs_none, staying}
-use Rattle.machine.specs.Ids.{is_id}
 use Rattle.machine.specs.Searches.{without}
 use Rattle.machine.specs.State.{State}
 use Rattle.machine.specs.declared.level.AdminRow.{AdminRow}
@@ -256,41 +255,16 @@ stay h AutoId id = all_stay h AutoId id refl refl
 stay h CheckFinger id = all_stay h CheckFinger id refl refl
 
 -- no test stood in the way
-record Passed (a b c : Bool) : Type 0 where
-  first : a ≡ false
-  next : b ≡ false
-  last : c ≡ false
-
-passed : (a b c : Bool) → cond a (Some ExistId) (cond b (Some FingerLimit) (cond c (Some MemFull) None)) ≡ None → Passed a b c
-passed true b c e = absurd (let z : ◌≡◌ {A = ℕ} 0 1 = cc in omega arith)
-passed false true c e = absurd (let z : ◌≡◌ {A = ℕ} 0 1 = cc in omega arith)
-passed false false true e = absurd (let z : ◌≡◌ {A = ℕ} 0 1 = cc in omega arith)
-passed false false false e = record { first = refl; next = refl; last = refl }
-
 none_yet : (n needed : ℕ) → needed ≤ 2 → n ≡ 0 → n + needed ≤ 10
 none_yet n needed l e = omega arith
 
 pub fits : (s : State) (flag : EnrollFlag) (param id needed : ℕ) → needed ≤ 2 → enroll_id s flag param ≡ Some id
     → enroll_fault s flag id needed ≡ None → Fits s.room s.held flag id needed
-fits s flag param id needed few i e = record { some_id = some flag i; free = free; ten = at flag i p }
+fits s flag param id needed few i e = record { some_id = (tests-passed s flag param id needed i e).0; free = (tests-passed s flag param id needed i e).1; ten = at flag i p }
   where
-    in_param : (b : Bool) → is_id param ≡ b → cond b (Some param) None ≡ Some id → 0 < id
-    in_param true q e = let z : param ≡ id = cc in grind (arith, nat_tests)
-    in_param false q e = absurd (let z : ◌≡◌ {A = ℕ} 0 1 = cc in omega arith)
-
-    some : (f : EnrollFlag) → enroll_id s f param ≡ Some id → 0 < id
-    some Replace i = in_param (is_id param) refl i
-    some CheckId i = in_param (is_id param) refl i
-    some AddNew i = in_param (is_id param) refl i
-    some AutoId i = let z : lowest_free s.held ≡ id = cc in omega (arith, (lowest-free s.held).some_id)
-    some CheckFinger i = in_param (is_id param) refl i
-
     p : Passed (needs_none flag && not (eqb (count_of id s.held) 0)) (adds flag && ltb 10 (count_of id s.held + needed))
         (ltb (s.room - length s.held) needed)
     p = passed _ _ _ e
-
-    free : needed ≤ s.room - length s.held
-    free = let z : ltb (s.room - length s.held) needed ≡ false = p.last in grind (arith, nat_tests)
 
     at : (f : EnrollFlag) → enroll_id s f param ≡ Some id
         → Passed (needs_none f && not (eqb (count_of id s.held) 0)) (adds f && ltb 10 (count_of id s.held + needed))

@@ -1,4 +1,4 @@
-ghost use Rattle.std.specs.Prelude.{◌≡◌, ◌≤◌, false, length};
+ghost use Rattle.std.specs.Prelude.{◌≡◌, ◌-◌, ◌<◌, ◌≤◌, false, length, IfOk};
 ghost use Rattle.codes.specs.declared.command.Command.TheVariants.{Enroll, EnrollByAdministrator};
 ghost use Rattle.device.specs.View.{view, went};
 ghost use Rattle.machine.specs.Answers.{Step};
@@ -71,9 +71,11 @@ fn enrollment<M: Matcher, S: Memory>(
     needed: u32,
 ) -> Result<Enrollment, Code>
     requires { needed ≤ 2 }
-    ensures { (f : Enrolling → Step) →
+    ensures value { (f : Enrolling → Step) →
         or_fault (view M.Matcher S.Memory device.now) (request_parts request.entry) f result
         ≡ enroll (view M.Matcher S.Memory device.now) (request_parts request.entry) by missing needed f }
+    ensures possible { IfOk result (λ e. (0 < e.id)
+        × (needed ≤ S.Memory.room device.now.memory - length (S.Memory.held device.now.memory))) }
 {
     let Some(flag) = EnrollFlag::numbered(request.flag) else {
         return Err(Code::Unsupported);
@@ -146,7 +148,10 @@ fn enroll_now<M: Matcher, S: Memory>(
     enrollment: Enrollment,
     work: &mut [u8],
 ) -> Answers
-    requires { 384 ≤ length work.old }
+    requires work_long { 384 ≤ length work.old }
+    requires whole { length request.«data».now ≡ S.Memory.size }
+    requires some_id { 0 < enrollment.id }
+    requires place { 1 ≤ S.Memory.room device.old.memory - length (S.Memory.held device.old.memory) }
     ensures { went (view M.Matcher S.Memory device.new) result
         ≡ enroll_now (view M.Matcher S.Memory device.old) (request_parts request.entry) enrollment }
 {
@@ -163,7 +168,8 @@ fn enroll_fitting<M: Matcher, S: Memory>(
     request: Request<'_>,
     work: &mut [u8],
 ) -> Answers
-    requires { 384 ≤ length work.old }
+    requires work_long { 384 ≤ length work.old }
+    requires whole { length request.«data».now ≡ S.Memory.size }
     ensures { went (view M.Matcher S.Memory device.new) result
         ≡ enroll (view M.Matcher S.Memory device.old) (request_parts request.entry) Host false 1
         (enroll_now (view M.Matcher S.Memory device.old) (request_parts request.entry)) }
@@ -180,11 +186,12 @@ pub(crate) fn enroll_template<M: Matcher, S: Memory>(
     request: Request<'_>,
     work: &mut [u8],
 ) -> Answers
-    requires { 384 ≤ length work.old }
+    requires work_long { 384 ≤ length work.old }
+    requires whole { length request.«data».now ≡ request.size }
     ensures { went (view M.Matcher S.Memory device.new) result
         ≡ enroll_template (view M.Matcher S.Memory device.old) (request_parts request.entry) }
 {
-    if request.data.len() != S::template_size() {
+    if request.size as usize != S::template_size() {
         return just(request, Code::Unsupported);
     }
     enroll_fitting(device, request, work)

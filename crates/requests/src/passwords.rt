@@ -43,10 +43,11 @@ pub(crate) fn unlock<M: Matcher, S: Memory>(
     device: &mut Device<M, S>,
     request: Request<'_>,
 ) -> Answers
+    requires { length request.«data».now ≡ request.size }
     ensures { went (view M.Matcher S.Memory device.new) result
         ≡ unlock (view M.Matcher S.Memory device.old) (request_parts request.entry) }
 {
-    if request.data.len() != 18 {
+    if request.size != 18 {
         return just(request, Code::Unsupported);
     }
     if !sum_right(request.data, 0) {
@@ -64,10 +65,11 @@ pub(crate) fn change_password<M: Matcher, S: Memory>(
     device: &mut Device<M, S>,
     request: Request<'_>,
 ) -> Answers
+    requires { length request.«data».now ≡ request.size }
     ensures { went (view M.Matcher S.Memory device.new) result
         ≡ change_password (view M.Matcher S.Memory device.old) (request_parts request.entry) }
 {
-    if request.data.len() != 36 {
+    if request.size != 36 {
         return just(request, Code::Unsupported);
     }
     if !(sum_right(request.data, 0) && sum_right(request.data, 18)) {

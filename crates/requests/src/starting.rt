@@ -1,9 +1,11 @@
-ghost use Rattle.std.specs.Prelude.{◌≡◌, ◌≤◌, true, cond, length, Ok, Err, nat_lt};
+ghost use Rattle.std.specs.Prelude.{◌≡◌, ◌≤◌, true, cond, length, Ok, Err, OnErr, nat_lt};
 ghost use Rattle.codes.specs.declared.command.Command.TheVariants.{DeleteAll, DeleteByAdministrator, Identify, Lock};
-ghost use Rattle.codes.specs.declared.refusal.Refusal.TheVariants.{WorkBuffer};
+ghost use Rattle.codes.specs.declared.numbered.Coded.TheVariants.{Known};
+ghost use Rattle.codes.specs.declared.refusal.Refusal.TheVariants.{DataLength, WorkBuffer};
 ghost use Rattle.device.specs.View.{tried, view, went};
 ghost use Rattle.machine.specs.Requests.{known, started};
-ghost use Rattle.packet.specs.Requests.{request_parts};
+ghost use Rattle.packet.specs.Data.{asks_with_data};
+ghost use Rattle.packet.specs.Requests.{has_data, request_parts};
 
 use crate::administrating::{delete, write_level};
 use crate::answer::just;
@@ -17,7 +19,7 @@ use codes::{Code, Coded, Command, Refusal};
 use device::{Answers, Awaited, Device, LONGEST_TEMPLATE};
 use matcher::Matcher;
 use memory::Memory;
-use packet::Request;
+use packet::{Request, asks_with_data};
 
 /// IS.
 fn identify<M: Matcher, S: Memory>(device: &mut Device<M, S>, request: Request<'_>) -> Answers
@@ -68,14 +70,15 @@ fn lock<M: Matcher, S: Memory>(device: &mut Device<M, S>, request: Request<'_>) 
     just(request, Code::Success)
 }
 
-/// What each command does.
+/// What each command does; the data of those that carry any is as long as Size says.
 fn carry_out<M: Matcher, S: Memory>(
     device: &mut Device<M, S>,
     request: Request<'_>,
     command: Command,
     work: &mut [u8],
 ) -> Answers
-    requires { 384 ≤ length work.old }
+    requires work_long { 384 ≤ length work.old }
+    requires whole { asks_with_data (Known command) ≡ true → length request.«data».now ≡ request.size }
     ensures { went (view M.Matcher S.Memory device.new) result
         ≡ known (view M.Matcher S.Memory device.old) (request_parts request.entry) command }
 {
@@ -101,7 +104,8 @@ fn carry_out<M: Matcher, S: Memory>(
 }
 
 /// A request to a module that is not busy with another. Templates are compared in `work`, which is the
-/// caller's to clear; where it is shorter than the longest template, the request is refused and nothing changes.
+/// caller's to clear. Where that is shorter than the longest template, or the request lacks the data that its Size
+/// says (one that was read from a frame has it), the request is refused and nothing changes.
 pub fn start<M: Matcher, S: Memory>(
     device: &mut Device<M, S>,
     request: Request<'_>,
@@ -109,12 +113,16 @@ pub fn start<M: Matcher, S: Memory>(
 ) -> Result<Answers, Refusal>
     ensures value { tried (view M.Matcher S.Memory device.new) result
         ≡ cond (nat_lt (length work.old) 384) (Err WorkBuffer)
-        (Ok (started (view M.Matcher S.Memory device.old) (request_parts request.entry) request.entry.command)) }
-    ensures refused { nat_lt (length work.old) 384 ≡ true
-        → view M.Matcher S.Memory device.new ≡ view M.Matcher S.Memory device.old }
+        (cond (has_data (request_parts request.entry))
+        (Ok (started (view M.Matcher S.Memory device.old) (request_parts request.entry) request.entry.command))
+        (Err DataLength)) }
+    ensures refused { OnErr result (view M.Matcher S.Memory device.new ≡ view M.Matcher S.Memory device.old) }
 {
     if work.len() < LONGEST_TEMPLATE {
         return Err(Refusal::WorkBuffer);
+    }
+    if asks_with_data(request.command) && request.data.len() != request.size as usize {
+        return Err(Refusal::DataLength);
     }
     match request.command {
         Coded::Known(command) => Ok(carry_out(device, request, command, work)),

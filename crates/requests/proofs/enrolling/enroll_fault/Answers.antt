@@ -8,10 +8,3 @@ overflow_add-held g c =
     let n = count_by-le-length (λ e. eqb e.id c.args.id) h in
     let w = g.met.S.Memory.within c.args.device.now.memory in
     omega (arith, n, w.0, w.1, c.count_of-held.ensures)
-
-pub overflow_add-held_in-CheckFinger· : goal.overflow_add-held_in-CheckFinger·
-overflow_add-held_in-CheckFinger· g c =
-    let h = g.S.Memory.held c.args.device.now.memory in
-    let n = count_by-le-length (λ e. eqb e.id c.args.id) h in
-    let w = g.met.S.Memory.within c.args.device.now.memory in
-    omega (arith, n, w.0, w.1, c.count_of-held.ensures)

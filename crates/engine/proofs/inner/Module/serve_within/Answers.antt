@@ -13,7 +13,7 @@ returns-in_err-answers g c =
     let v = state g.M.Matcher g.S.Memory c.args.self.now in
     let w = state g.M.Matcher g.S.Memory c.hear.new.self in
     let k = call (event_of c.args.input) c.args.out.now c.args.work.now in
-    let p = err_from_is_err_and c.from-residual.result c.from-residual.ensures.1 in
+    let p = err_from_is_err_and c.from_residual.result c.from_residual.ensures.1 in
     let R : Result Answer Refusal → Type 0 = λ a. Shows v k.event (step_of v k) a w k.out k.out in
     record {
       shows = subst R (sym (p.1 ∙ ap Err p.2)) (refused v k w (within v k c.requires.0 c.requires.1) _ c.in_err-answers.ensures);

@@ -1,5 +1,5 @@
 -- An outcome that ends a request, or lets it go on.
-use Rattle.std.proofs.Common.{◌≡◌, ℕ, Bool, true, false, cond, List, [], ◌∷◌, ◌++◌, length, take, is_some, Some, None, refl, ap, ◌∙◌, arith}
+use Rattle.std.proofs.Common.{◌≡◌, ℕ, ◌≤◌, Bool, true, false, cond, List, [], ◌∷◌, ◌++◌, map, length, take, is_some, Some, None, refl, ap, ◌∙◌, arith}
 use Rattle.codes.specs.declared.code.Code.{Code}
 use Rattle.codes.specs.declared.code.Code.TheVariants.{Success, Unsupported}
 use Rattle.device.proofs.Remembering.{remembering}
@@ -8,7 +8,10 @@ use Rattle.device.specs.declared.answers.Answers.{Answers}
 use Rattle.device.specs.declared.answers.Told.{Told}
 use Rattle.machine.specs.Answers.{Step, go, tell}
 use Rattle.machine.specs.Administrators.{level_of, struck}
-use Rattle.machine.specs.Enrollment.{added, staying}
+use Rattle.machine.specs.Enrollment.{staying}
+use Rattle.machine.specs.Settings.{templates_in}
+use Rattle.machine.specs.declared.settings.EnrollMode.{EnrollMode}
+use Rattle.machine.specs.declared.settings.EnrollMode.TheVariants.{Once, Twice, TwoTemplates}
 use Rattle.machine.specs.Searches.{without}
 use Rattle.machine.specs.State.{State, Waiting, awaiting, holding}
 use Rattle.machine.specs.State.Phase.{second_finger}
@@ -52,10 +55,16 @@ keeps s v a w e size front behind scan quality waits same long said =
 -- templates are enrolled
 pub enrolls : (s : State) (w : Waiting) (e : Enrollment) (templates : List (List ℕ)) (x : Step) (room : ℕ) (h : List Held) (n m quality : ℕ)
     → x ≡ ended (remembering s room h s.admins) w n m Success → n ≡ e.id → m ≡ quality → room ≡ s.room
-    → h ≡ added s e.id templates (staying e.flag e.id s.held) → x ≡ done s w e templates quality
+    → h ≡ staying e.flag e.id s.held ++ map (λ t. record { id = e.id; template = t }) templates → x ≡ done s w e templates quality
 enrolls s w e templates x room h n m quality k p q r t = k ∙ rw (p, q, r, t)
 
 -- the better scan is as long as a template
 pub better-part : (b : Bool) (size : ℕ) (one two : List ℕ) → length two ≡ size → take size (cond b two one) ≡ cond b two (take size one)
 better-part true size one two e = take_all size two (omega arith)
 better-part false size one two e = refl
+
+-- an enrolment gives some template
+pub some-template : (m : EnrollMode) → 1 ≤ templates_in m
+some-template Once = omega arith
+some-template Twice = omega arith
+some-template TwoTemplates = omega arith

@@ -1,4 +1,4 @@
-ghost use Rattle.std.specs.Prelude.{◌≡◌, ℕ, ◌≤◌, true, cond, [], ◌∷◌, length, Some, None, Ok, Err, nat_lt};
+ghost use Rattle.std.specs.Prelude.{◌≡◌, ℕ, ◌≤◌, cond, [], ◌∷◌, length, Some, None, Err, OnErr, nat_lt};
 ghost use Rattle.codes.specs.Commands.{command_number};
 ghost use Rattle.codes.specs.declared.command.Command.TheVariants.{Cancel};
 ghost use Rattle.codes.specs.declared.refusal.Refusal.TheVariants.{WorkBuffer};
@@ -6,6 +6,7 @@ ghost use Rattle.device.specs.View.{phase_of, tried, view, waiting_of, went};
 ghost use Rattle.device.specs.declared.awaited.FirstScan.{FirstScan};
 ghost use Rattle.machine.specs.Answers.{go, tell};
 ghost use Rattle.machine.specs.Machine.{asked};
+ghost use Rattle.machine.specs.Ready.{Ready};
 ghost use Rattle.machine.specs.State.{Waiting, awaiting, command_of};
 ghost use Rattle.machine.specs.Waiting.{on_second};
 ghost use Rattle.packet.specs.Data.{known_among};
@@ -119,8 +120,9 @@ fn match_awaited<M: Matcher, S: Memory>(
 ) -> Result<Answers, Refusal>
     requires in_bounds { 384 ≤ length work.old }
     requires good { Good S.Memory.size event }
-    ensures { tried (view M.Matcher S.Memory device.new) result
-        ≡ Ok (decided (view M.Matcher S.Memory device.old) event.entry) }
+    ensures value { Ready (view M.Matcher S.Memory device.old) → tried (view M.Matcher S.Memory device.new) result
+        ≡ decided (view M.Matcher S.Memory device.old) event.entry }
+    ensures refused { OnErr result (view M.Matcher S.Memory device.new ≡ view M.Matcher S.Memory device.old) }
 {
     match (&mut device.awaited, event) {
         (Awaited::Nothing, Event::Packet(request)) => start(device, request, work),
@@ -225,8 +227,9 @@ fn decide_in<M: Matcher, S: Memory>(
     work: &mut [u8],
 ) -> Result<Answers, Refusal>
     requires { 384 ≤ length work.old }
-    ensures { tried (view M.Matcher S.Memory device.new) result
-        ≡ Ok (decided (view M.Matcher S.Memory device.old) event.entry) }
+    ensures value { Ready (view M.Matcher S.Memory device.old) → tried (view M.Matcher S.Memory device.new) result
+        ≡ decided (view M.Matcher S.Memory device.old) event.entry }
+    ensures refused { OnErr result (view M.Matcher S.Memory device.new ≡ view M.Matcher S.Memory device.old) }
 {
     match event {
         Event::Packet(_) => match_awaited(device, event, work),
@@ -238,18 +241,18 @@ fn decide_in<M: Matcher, S: Memory>(
     }
 }
 
-/// What comes to a module whose lock lets it through. Templates are compared in `work`, which is the caller's to
-/// clear; where it is shorter than the longest template, all is refused and nothing changes.
+/// What comes to a module whose lock lets it through, if an enrolment that waits can be carried out, as in every
+/// module that calls have led to. Templates are compared in `work`, which is the caller's to clear; where it is shorter
+/// than the longest template, all is refused. A refusal changes nothing.
 pub fn decide<M: Matcher, S: Memory>(
     device: &mut Device<M, S>,
     event: Event<'_>,
     work: &mut [u8],
 ) -> Result<Answers, Refusal>
-    ensures value { tried (view M.Matcher S.Memory device.new) result
+    ensures value { Ready (view M.Matcher S.Memory device.old) → tried (view M.Matcher S.Memory device.new) result
         ≡ cond (nat_lt (length work.old) 384) (Err WorkBuffer)
-        (Ok (decided (view M.Matcher S.Memory device.old) event.entry)) }
-    ensures refused { nat_lt (length work.old) 384 ≡ true
-        → view M.Matcher S.Memory device.new ≡ view M.Matcher S.Memory device.old }
+        (decided (view M.Matcher S.Memory device.old) event.entry) }
+    ensures refused { OnErr result (view M.Matcher S.Memory device.new ≡ view M.Matcher S.Memory device.old) }
 {
     if work.len() < LONGEST_TEMPLATE {
         return Err(Refusal::WorkBuffer);

@@ -1,6 +1,7 @@
 ghost use Rattle.std.specs.Prelude.{◌≡◌, ◌≤◌, max, [], ◌∷◌, length, take, if◌then◌else◌, nat_lt};
 ghost use Rattle.device.specs.View.{view, went};
-ghost use Rattle.machine.specs.Enrollment.{enrolled};
+ghost use Rattle.machine.specs.Ready.{CanEnroll};
+ghost use Rattle.machine.specs.Settings.{templates_in};
 ghost use Rattle.machine.specs.State.{Waiting, command_of, enroll_command};
 ghost use Rattle.machine.specs.State.Phase.{first_finger, second_finger};
 ghost use Rattle.machine.specs.Waiting.{better as better_of, done, first, goes_on, pressed, second};
@@ -42,7 +43,8 @@ fn take_first<M: Matcher, S: Memory>(
     scan: Scan<'_>,
 ) -> Answers
     requires { length scan.bytes.now ≡ S.Memory.size }
-    ensures { went (view M.Matcher S.Memory device.new) result
+    ensures { CanEnroll (view M.Matcher S.Memory device.old) enrollment
+        → went (view M.Matcher S.Memory device.new) result
         ≡ first (view M.Matcher S.Memory device.old) (waiting_for device.old (first_finger enrollment)) enrollment
         device.old.settings.enroll scan.entry.bytes.now scan.entry.quality }
 {
@@ -72,7 +74,8 @@ pub(crate) fn first_finger<M: Matcher, S: Memory>(
 ) -> Answers
     requires in_bounds { 384 ≤ length work.old }
     requires bytes_len { length scan.bytes.now ≡ S.Memory.size }
-    ensures { went (view M.Matcher S.Memory device.new) result
+    ensures { CanEnroll (view M.Matcher S.Memory device.old) enrollment
+        → went (view M.Matcher S.Memory device.new) result
         ≡ pressed (view M.Matcher S.Memory device.old) (waiting_for device.old (first_finger enrollment))
         (first_finger enrollment) scan.entry.bytes.now scan.entry.quality }
 {
@@ -99,6 +102,7 @@ fn better<'a>(
     requires size_in_bounds { size ≤ length first.now }
     requires size_in_bounds_2 { size ≤ length second.now }
     ensures value { result.now ≡ take size (if nat_lt first_quality second_quality then second.now else first.now) }
+    ensures long { length result.now ≡ size }
     ensures same { result.ref_ptr ≡ (if nat_lt first_quality second_quality then second.entry.ref_ptr else first.entry.ref_ptr) }
 {
     if second_quality > first_quality {
@@ -111,7 +115,8 @@ fn better<'a>(
 /// The first scan, as long as a template.
 fn first_scan(first: &FirstScan, size: usize) -> &[u8]
     requires { size ≤ 384 }
-    ensures { result.now ≡ take size first.now.bytes }
+    ensures value { result.now ≡ take size first.now.bytes }
+    ensures long { length result.now ≡ size }
 {
     &first.bytes[0..size]
 }
@@ -122,7 +127,10 @@ fn enroll_both<M: Matcher, S: Memory>(
     enrollment: Enrollment,
     scan: Scan<'_>,
 ) -> Answers
-    ensures { (w : Waiting) → w.form ≡ device.old.form → command_of w.phase ≡ enroll_command enrollment.by
+    requires { length scan.bytes.now ≡ S.Memory.size }
+    ensures { CanEnroll (view M.Matcher S.Memory device.old) enrollment
+        → templates_in device.old.settings.enroll ≡ 2
+        → (w : Waiting) → w.form ≡ device.old.form → command_of w.phase ≡ enroll_command enrollment.by
         → went (view M.Matcher S.Memory device.new) result
         ≡ done (view M.Matcher S.Memory device.old) w enrollment
         (take S.Memory.size device.old.first.bytes ∷ scan.entry.bytes.now ∷ [])
@@ -148,7 +156,8 @@ fn enroll_better<M: Matcher, S: Memory>(
     scan: Scan<'_>,
 ) -> Answers
     requires { length scan.bytes.now ≡ S.Memory.size }
-    ensures { (w : Waiting) → w.form ≡ device.old.form → command_of w.phase ≡ enroll_command enrollment.by
+    ensures { CanEnroll (view M.Matcher S.Memory device.old) enrollment
+        → (w : Waiting) → w.form ≡ device.old.form → command_of w.phase ≡ enroll_command enrollment.by
         → went (view M.Matcher S.Memory device.new) result
         ≡ done (view M.Matcher S.Memory device.old) w enrollment
         (better_of (take S.Memory.size device.old.first.bytes) device.old.first.quality
@@ -182,7 +191,8 @@ fn take_second<M: Matcher, S: Memory>(
     scan: Scan<'_>,
 ) -> Answers
     requires { length scan.bytes.now ≡ S.Memory.size }
-    ensures { (w : Waiting) → w.form ≡ device.old.form → command_of w.phase ≡ enroll_command enrollment.by
+    ensures { CanEnroll (view M.Matcher S.Memory device.old) enrollment
+        → (w : Waiting) → w.form ≡ device.old.form → command_of w.phase ≡ enroll_command enrollment.by
         → went (view M.Matcher S.Memory device.new) result
         ≡ second (view M.Matcher S.Memory device.old) w enrollment device.old.settings.enroll
         (take S.Memory.size device.old.first.bytes) device.old.first.quality
@@ -202,7 +212,8 @@ pub(crate) fn second_finger<M: Matcher, S: Memory>(
     scan: Scan<'_>,
 ) -> Answers
     requires { length scan.bytes.now ≡ S.Memory.size }
-    ensures { went (view M.Matcher S.Memory device.new) result
+    ensures { CanEnroll (view M.Matcher S.Memory device.old) enrollment
+        → went (view M.Matcher S.Memory device.new) result
         ≡ pressed (view M.Matcher S.Memory device.old)
         (waiting_for device.old (second_finger enrollment (take S.Memory.size device.old.first.bytes) device.old.first.quality))
         (second_finger enrollment (take S.Memory.size device.old.first.bytes) device.old.first.quality)

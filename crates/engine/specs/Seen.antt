@@ -8,7 +8,7 @@ use Rattle.machine.specs.State.{State}
 use Rattle.matcher.specs.declared.matching.Matcher.{Ghosts as Matching}
 use Rattle.memory.specs.declared.Memory.{Ghosts as Remembering}
 use Rattle.packet.specs.declared.response.Outcome.{Outcome}
-use Rattle.promises.specs.Runs.{Entry}
+use Rattle.promises.specs.Record.{Entry}
 use Rattle.engine.specs.declared.answer.Answer.{Answer}
 use Rattle.engine.specs.declared.answer.Outcomes.{Outcomes}
 use Rattle.engine.specs.declared.answer.Outcomes.TheVariants.{Nothing, One, Two}
@@ -17,7 +17,7 @@ use Rattle.engine.specs.declared.hearing.Input.TheVariants.{Frame, Finger, Secon
 use Rattle.engine.specs.declared.inner.Module.{Module}
 
 -- a module, as the machine's state
-abbrev pub state : {M S : Type 0} → Matching M → Remembering S → Module M S → State
+abbrev pub state : {M S : Type 0} → (f : Matching M) (g : Remembering S) → Module M S f g → State
 state f g m = view f g m.device
 
 -- a call of this event on these two buffers

@@ -7,12 +7,11 @@ ghost use Rattle.machine.specs.Machine.{step_of};
 ghost use Rattle.machine.specs.Machine.Event.{finger, packet, second};
 ghost use Rattle.machine.specs.State.{fresh};
 ghost use Rattle.memory.specs.Held.{Held};
-ghost use Rattle.promises.specs.Calls.{Keeps};
-ghost use Rattle.promises.specs.Runs.{Run};
+ghost use Rattle.promises.specs.Calls.{Keeps, Run};
 
 use crate::answer::{Answer, Outcomes};
 use crate::guard::Cleared;
-use crate::hearing::Input;
+use crate::hearing::{Input, hear};
 use crate::inner::Module;
 use crate::writing::write_answers;
 use codes::Refusal;
@@ -61,7 +60,7 @@ impl<M: Matcher, S: Memory> Module<M, S> {
     {
         let guard = Cleared(work);
         let own = self.device.own;
-        let answers = self.hear(input, guard.0)?;
+        let answers = hear(&mut self.device, input, guard.0)?;
         let count = write_answers(&self.device.memory, own, out, answers);
         Ok(Answer {
             outcomes: outcomes_of(answers),

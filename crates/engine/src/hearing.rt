@@ -1,18 +1,18 @@
-ghost use Rattle.std.specs.Prelude.{◌≡◌, ◌≤◌, [], ◌∷◌, length, Ok};
+ghost use Rattle.std.specs.Prelude.{◌≡◌, ◌≤◌, true, [], ◌∷◌, length, Ok, OnErr};
 ghost use Rattle.codes.specs.Commands.{command_number};
 ghost use Rattle.codes.specs.declared.command.Command.TheVariants.{Unlock};
-ghost use Rattle.device.specs.View.{tried};
-ghost use Rattle.engine.specs.Seen.{event_of, state};
+ghost use Rattle.device.specs.View.{tried, view};
+ghost use Rattle.engine.specs.Seen.{event_of};
 ghost use Rattle.engine.specs.Shows.{Heard};
 ghost use Rattle.machine.specs.Machine.{requested};
 ghost use Rattle.machine.specs.Machine.Event.{packet};
+ghost use Rattle.machine.specs.Ready.{Ready};
 ghost use Rattle.packet.specs.Data.{known_among};
-ghost use Rattle.packet.specs.Requests.{request_parts};
+ghost use Rattle.packet.specs.Requests.{has_data, request_parts};
 ghost use Rattle.phases.specs.declared.scan.Event.TheVariants.{Second};
 
-use crate::inner::Module;
 use codes::{Code, Coded, Command, Refusal};
-use device::{Answers, Told};
+use device::{Answers, Device, Told};
 use matcher::Matcher;
 use memory::Memory;
 use packet::{Request, read_request};
@@ -41,39 +41,51 @@ fn second() -> Event<'static>
     Event::Second
 }
 
-impl<M: Matcher, S: Memory> Module<M, S> {
-    /// A request: a locked module hears nothing but UM.
-    fn answer(&mut self, request: Request<'_>, work: &mut [u8]) -> Result<Answers, Refusal>
-        requires { 384 ≤ length work.old }
-        ensures { tried (state M.Matcher S.Memory self.new) result
-            ≡ Ok (requested (state M.Matcher S.Memory self.old) (request_parts request.entry)) }
-    {
-        if self.device.locked && !is_unlock(request.command) {
-            return Ok(Answers::One(Told::own(request, 0, 0, Code::Locked)));
-        }
-        decide(&mut self.device, Event::Packet(request), work)
+/// A request: a locked module hears nothing but UM.
+fn answer<M: Matcher, S: Memory>(
+    device: &mut Device<M, S>,
+    request: Request<'_>,
+    work: &mut [u8],
+) -> Result<Answers, Refusal>
+    requires { 384 ≤ length work.old }
+    ensures value { Ready (view M.Matcher S.Memory device.old) → has_data (request_parts request.entry) ≡ true
+        → tried (view M.Matcher S.Memory device.new) result
+        ≡ Ok (requested (view M.Matcher S.Memory device.old) (request_parts request.entry)) }
+    ensures refused { OnErr result (view M.Matcher S.Memory device.new ≡ view M.Matcher S.Memory device.old) }
+{
+    if device.locked && !is_unlock(request.command) {
+        return Ok(Answers::One(Told::own(request, 0, 0, Code::Locked)));
     }
+    decide(device, Event::Packet(request), work)
+}
 
-    /// The bytes of a frame.
-    fn hear_frame(&mut self, frame: &[u8], work: &mut [u8]) -> Result<Answers, Refusal>
-        requires { 384 ≤ length work.old }
-        ensures { Heard (state M.Matcher S.Memory self.old) (packet frame.now) result
-            (state M.Matcher S.Memory self.new) }
-    {
-        let request = read_request(frame, self.device.settings.network, self.device.own)?;
-        self.answer(request, work)
-    }
+/// The bytes of a frame.
+fn hear_frame<M: Matcher, S: Memory>(
+    device: &mut Device<M, S>,
+    frame: &[u8],
+    work: &mut [u8],
+) -> Result<Answers, Refusal>
+    requires { 384 ≤ length work.old }
+    ensures { Ready (view M.Matcher S.Memory device.old)
+        → Heard (view M.Matcher S.Memory device.old) (packet frame.now) result (view M.Matcher S.Memory device.new) }
+{
+    let request = read_request(frame, device.settings.network, device.own)?;
+    answer(device, request, work)
+}
 
-    /// What a call is given.
-    pub(crate) fn hear(&mut self, input: Input<'_>, work: &mut [u8]) -> Result<Answers, Refusal>
-        requires { 384 ≤ length work.old }
-        ensures { Heard (state M.Matcher S.Memory self.old) (event_of input.entry) result
-            (state M.Matcher S.Memory self.new) }
-    {
-        match input {
-            Input::Frame(frame) => self.hear_frame(frame, work),
-            Input::Finger(scan) => decide(&mut self.device, Event::Finger(scan), work),
-            Input::Second => decide(&mut self.device, second(), work),
-        }
+/// What a call is given.
+pub(crate) fn hear<M: Matcher, S: Memory>(
+    device: &mut Device<M, S>,
+    input: Input<'_>,
+    work: &mut [u8],
+) -> Result<Answers, Refusal>
+    requires { 384 ≤ length work.old }
+    ensures { Ready (view M.Matcher S.Memory device.old)
+        → Heard (view M.Matcher S.Memory device.old) (event_of input.entry) result (view M.Matcher S.Memory device.new) }
+{
+    match input {
+        Input::Frame(frame) => hear_frame(device, frame, work),
+        Input::Finger(scan) => decide(device, Event::Finger(scan), work),
+        Input::Second => decide(device, second(), work),
     }
 }

@@ -47,3 +47,14 @@ keeps v c a n w answer count led =
       alike = λ x r y b s t cs. locked-alike w b (reached (e ∷ x) w (on x r)) (reached y b s) t.first_locked
           t.second_locked t.password t.own t.network cs;
     }
+
+-- a call goes on from a module that calls have led to
+pub reached-next : (v : State) (c : Call) (w : State) → w ≡ next_of v (step_of v c) → Reached v → Reached w
+reached-next v c w led r = record {
+  agree = r.agree;
+  size = r.size;
+  room = r.room;
+  own = r.own;
+  calls = c ∷ r.calls;
+  led = led ∙ ap (λ s. next_of s (step_of s c)) r.led;
+}

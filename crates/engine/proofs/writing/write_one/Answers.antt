@@ -10,7 +10,7 @@ returns c =
     let out = c.args.out.now in
     let form = reply_form c.args.own c.args.reply.to in
     let bs = bytes_in form c.args.reply.outcome [] in
-    let e = ap (bytes_in form c.args.reply.outcome) c.requires.1 in
+    let e = ap (bytes_in form c.args.reply.outcome) c.requires.data_value in
     let k = settled bs out _ _ _ (c.write_reply.ensures.count ∙ ap (λ x. written_count x out) e) (c.write_reply.ensures.bytes ∙ ap (λ x. written x out) e)
     (omega (arith, short-reply form c.args.reply.outcome [])) c.unwrap_or.ensures in
     wrote c.args.own _ bs out _ _ (omega arith) (record { param_fits = omega arith; size_fits = omega arith }, tt) (append-nil bs) k.0 k.1

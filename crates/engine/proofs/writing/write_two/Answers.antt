@@ -13,7 +13,7 @@ returns c =
     let two = c.args.second in
     let bs = bytes_in (reply_form own one.to) one.outcome [] in
     let cs = bytes_in (reply_form own two.to) two.outcome [] in
-    let e = ap (λ x. bytes_in (reply_form own one.to) one.outcome x ++ reply_bytes own two) c.requires.1 ∙ ap (λ x. bs ++ bytes_in (reply_form own two.to) two.outcome x) c.requires.2 in
+    let e = ap (λ x. bytes_in (reply_form own one.to) one.outcome x ++ reply_bytes own two) c.requires.data_value ∙ ap (λ x. bs ++ bytes_in (reply_form own two.to) two.outcome x) c.requires.data_value_2 in
     let k = settled (bs ++ cs) out _ _ _ (c.write_replies.ensures.count ∙ ap (λ x. written_count x out) e) (c.write_replies.ensures.bytes ∙ ap (λ x. written x out) e)
     (omega (arith, length-append bs cs, short-reply (reply_form own one.to) one.outcome [], short-reply (reply_form own two.to) two.outcome []))
     c.unwrap_or.ensures in

@@ -1,12 +1,11 @@
 -- The templates of an ID are taken out, place by place.
-use Rattle.std.proofs.Common.{◌≡◌, ℕ, suc, ◌+◌, ◌-◌, ◌<◌, ◌≤◌, Bool, true, false, cond, eqb, ltb, List, [], ◌∷◌, ◌++◌, length, take, drop, Some, None, sym, refl, ap, ◌∙◌, add-one, arith}
-use lib.Seq.{take-append-le}
+use Rattle.std.proofs.Common.{◌≡◌, ℕ, suc, ◌+◌, ◌<◌, ◌≤◌, Bool, true, false, cond, eqb, ltb, List, [], ◌∷◌, ◌++◌, length, take, drop, Some, None, sym, refl, ap, ◌∙◌, add-one, arith}
 use Rattle.memory.specs.Held.{Held, held_at, id_at, none, remove_after}
 use Rattle.machine.specs.Searches.{without}
 use Rattle.std.specs.List.{remove}
 use Rattle.std.proofs.lemmas.List.Edits.{length-remove}
-use Rattle.std.proofs.lemmas.List.{append-nil, drop_more, length-take-le, take_all, take_at, take-append-drop, take_more}
-use Rattle.std.proofs.lemmas.Bool.{cases_Bool, eq-eqb, lt-ltb, ltb-false, ltb-true, ne_eqb}
+use Rattle.std.proofs.lemmas.List.{drop_more, length-take-le, take_all, take_at, take-append-drop, take_more}
+use Rattle.std.proofs.lemmas.Bool.{eq-eqb, lt-ltb, ltb-false, ltb-true, ne_eqb}
 
 pub without-append : (id : ℕ) (g h : List Held) → without id (g ++ h) ≡ without id g ++ without id h
 without-append id [] h = refl

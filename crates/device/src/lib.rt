@@ -1,4 +1,5 @@
 //! What a module keeps, and how what it holds changes.
+#![tactic(auto)]
 
 mod agreeing;
 mod answers;

@@ -1,5 +1,5 @@
 -- The IDs that LT answers, written one behind the other.
-use Rattle.std.proofs.Common.{◌≡◌, ℕ, ◌+◌, ◌*◌, ◌<◌, ◌≤◌, List, [], ◌∷◌, ◌++◌, map, length, get_or, take, drop, sym, refl, ap, ◌∙◌, arith}
+use Rattle.std.proofs.Common.{◌≡◌, ℕ, ◌+◌, ◌*◌, ◌<◌, List, [], ◌++◌, map, length, get_or, take, drop, sym, ap, ◌∙◌, arith}
 use Rattle.memory.specs.Held.{Held, held_at, none}
 use Rattle.packet.specs.Numbers.{bytes32}
 use Rattle.promises.proofs.Sent.{length_ids}

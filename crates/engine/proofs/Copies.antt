@@ -1,5 +1,5 @@
 -- A template that is copied straight into the answer buffer.
-use Rattle.std.proofs.Common.{◌≡◌, ℕ, ◌<◌, ◌≤◌, List, [], ◌++◌, length, drop, unwrap_or, sym, refl, ap, ◌∙◌, ⊎_elim, arith}
+use Rattle.std.proofs.Common.{◌≡◌, ℕ, ◌<◌, ◌≤◌, List, ◌++◌, length, drop, unwrap_or, sym, ap, ◌∙◌, ⊎_elim, arith}
 use Rattle.memory.specs.Held.{Held, Sound, copy_after, copy_answer, held_at, none}
 use Rattle.memory.proofs.Cases.{copy-past, copy-there}
 use Rattle.std.specs.List.{AllByRecursion}

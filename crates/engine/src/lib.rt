@@ -1,4 +1,5 @@
 //! The command engine of a fingerprint module, over any matcher and any template memory.
+#![tactic(auto)]
 
 mod answer;
 mod calls;

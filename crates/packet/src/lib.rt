@@ -12,8 +12,8 @@ mod request;
 mod response;
 mod write;
 
-pub use behind::asks_with_data;
 pub use around::{data_place, write_reply_around};
+pub use behind::asks_with_data;
 pub use form::Form;
 pub use marked::marked_packets;
 pub use password::{PASSWORD_LENGTH, password_sum};

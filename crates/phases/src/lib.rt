@@ -1,4 +1,5 @@
 //! What a request waits for and the call that comes decide together.
+#![tactic(auto)]
 
 mod deciding;
 mod enrolling;

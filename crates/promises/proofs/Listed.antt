@@ -2,7 +2,6 @@
 use Rattle.std.proofs.Common.{◌≡◌, ℕ, suc, ◌+◌, ◌-◌, ◌<◌, ◌≤◌, Bool, true, false, cond, not, ◌&&◌, ◌||◌, eqb, ltb, List, [], ◌∷◌, ◌++◌, map, length, replicate, is_some, Some, None, count_by, Option, sym, refl, ap, ◌∙◌, arith}
 use Rattle.codes.specs.Flags.{flag_number}
 use Rattle.codes.specs.Numbers.{case_of}
-use Rattle.codes.specs.declared.code.Code.TheVariants.{ExistId, FingerLimit, MemFull}
 use Rattle.codes.specs.declared.flag.EnrollFlag.{EnrollFlag}
 use Rattle.codes.specs.declared.flag.EnrollFlag.TheVariants.{Replace, CheckId, AddNew, AutoId, CheckFinger}
 use Rattle.memory.specs.Held.{Held}

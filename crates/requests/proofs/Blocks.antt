@@ -1,5 +1,5 @@
 -- The block of IDs that LT lists: how many they are, and all of them.
-use Rattle.std.proofs.Common.{◌≡◌, ℕ, ◌-◌, ◌*◌, ◌≤◌, min, List, map, length, take, drop, sym, refl, ap, ◌∙◌, arith}
+use Rattle.std.proofs.Common.{◌≡◌, ℕ, ◌-◌, ◌*◌, min, List, map, length, take, arith}
 use Rattle.codes.specs.declared.code.Code.TheVariants.{Success}
 use Rattle.device.specs.View.{went}
 use Rattle.device.specs.declared.answers.Answers.TheVariants.{WithData}

@@ -1,11 +1,11 @@
 -- A template that came as data is enrolled.
-use Rattle.std.proofs.Common.{◌≡◌, ℕ, false, cond, ◌&&◌, List, [], ◌∷◌, ◌++◌, ap, sym, ◌∙◌}
+use Rattle.std.proofs.Common.{◌≡◌, ℕ, false, cond, ◌&&◌, List, [], ◌∷◌, ◌++◌, ap}
 use Rattle.codes.specs.declared.code.Code.TheVariants.{ExistFinger, Success}
 use Rattle.device.proofs.Remembering.{remembering}
 use Rattle.device.specs.View.{went}
 use Rattle.device.specs.declared.answers.Answers.{Answers}
 use Rattle.device.specs.declared.answers.Answers.TheVariants.{One}
-use Rattle.machine.specs.Answers.{Step, answer, go, just, outcome}
+use Rattle.machine.specs.Answers.{answer, go, just, outcome}
 use Rattle.machine.specs.Enrollment.{enrolled, looks_up, staying}
 use Rattle.machine.specs.Requests.{enroll_now}
 use Rattle.machine.specs.Searches.{any_agrees}

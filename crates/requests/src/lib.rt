@@ -1,4 +1,5 @@
 //! What an idle module makes of a request, command by command.
+#![tactic(auto)]
 
 mod administrating;
 mod answer;

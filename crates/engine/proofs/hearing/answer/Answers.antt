@@ -18,8 +18,8 @@ returns-clause-value g c = λ ready whole.
     let q = request_parts c.args.request in
     let hears : (s.locked && not (known_among command_number (Unlock ∷ []) q.command)) ≡ false =
     elim c.else-device.branch [
-      else-device-via-then-device+else-not-is_unlock w ↦ is_unlock-heard s.locked _ (sym w.if-not-is_unlock.ensures)
-    | else-device-via-else-device w ↦ unlocked-hears s.locked _ w.if-device.false
+      | else-device-via-then-device+else-not-is_unlock w ↦ is_unlock-heard s.locked _ (sym w.if-not-is_unlock.ensures)
+      | else-device-via-else-device w ↦ unlocked-hears s.locked _ w.if-device.false
     ] in
     lets_through s q _ whole hears
     (c.decide.ensures.value ready

@@ -1,4 +1,4 @@
-use Rattle.std.proofs.Common.{sym, ◌∙◌}
+use Rattle.std.proofs.Common.{sym}
 use Rattle.device.specs.View.{view}
 use Rattle.engine.proofs.HeardAs.{framed}
 use Rattle.packet.specs.Requests.{request_parts}

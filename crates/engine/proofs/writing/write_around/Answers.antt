@@ -1,4 +1,4 @@
-use Rattle.std.proofs.Common.{◌≡◌, ℕ, ◌+◌, ◌≤◌, List, [], ◌++◌, length, take, drop, sym, ap, ◌∙◌, arith}
+use Rattle.std.proofs.Common.{◌≤◌, [], length, ap, ◌∙◌, arith}
 use Rattle.device.specs.View.{data_in}
 use Rattle.engine.proofs.Placed.{around, bare, place, settled, short-data, short-reply, wrote}
 use Rattle.packet.specs.Packets.{written, written_count}

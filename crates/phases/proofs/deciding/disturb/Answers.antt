@@ -1,4 +1,4 @@
-use Rattle.std.proofs.Common.{◌≡◌, sym, refl, ◌∙◌}
+use Rattle.std.proofs.Common.{◌≡◌, sym, refl}
 use Rattle.device.specs.View.{view, went}
 use Rattle.device.specs.declared.answers.Answers.TheVariants.{One, Two}
 use Rattle.machine.specs.Machine.{asked}

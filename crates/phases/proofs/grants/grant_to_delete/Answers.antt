@@ -1,4 +1,4 @@
-use Rattle.std.proofs.Common.{sym, refl, ap, ◌∙◌}
+use Rattle.std.proofs.Common.{refl, ap, ◌∙◌}
 use Rattle.device.specs.View.{view}
 use Rattle.machine.specs.State.Phase.{grant_to_delete, person_to_delete}
 use Rattle.machine.specs.Waiting.{granted}

@@ -1,4 +1,4 @@
-use Rattle.std.proofs.Common.{sym, ◌∙◌}
+use Rattle.std.proofs.Common.{◌∙◌}
 use Rattle.device.specs.View.{view}
 use Rattle.machine.proofs.Enrolled.{enrolls-one}
 use Rattle.packet.specs.Requests.{request_parts}

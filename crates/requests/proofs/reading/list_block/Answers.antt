@@ -1,4 +1,3 @@
-use Rattle.std.proofs.Common.{min, sym, ap, ◌∙◌}
 use Rattle.packet.specs.Requests.{request_parts}
 use Rattle.requests.proofs.Blocks.{block-length, block-told}
 use Rattle.requests.proofs.reading.list_block.Goals as goal

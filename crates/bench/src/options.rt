@@ -68,7 +68,7 @@ impl Given {
             "--rows" => self.set_memory(MemoryKind::Rows(number_of(value)?))?,
             "--matcher" => self.matcher = matcher_of(value)?,
             "--number" => self.number = number_of(value)?,
-            _ => return Err(USAGE.into()),
+            _ => return Err(anyhow!("{USAGE}")),
         }
         Ok(())
     }
@@ -84,7 +84,7 @@ pub(crate) fn read_options(rt: &HostRuntime) -> anyhow::Result<Options> {
     let words: Vec<String> = env::args(rt)?.skip(1).collect(rt.alloc())?;
     for pair in words.chunks(2) {
         let [name, value] = pair else {
-            return Err(USAGE.into());
+            return Err(anyhow!("{USAGE}"));
         };
         given.set(name.as_str(), value.as_str())?;
     }

@@ -17,7 +17,7 @@ const WORK_BUFFER: usize = 384;
 
 /// A module on the bench, with buffers that serve all its lines.
 #[derive(Drop)]
-pub(crate) struct Session<M, S> {
+pub(crate) struct Session<M: Matcher, S: Memory> {
     module: Module<M, S>,
     bytes: Vec<u8>,
     out: [u8; ANSWER_BUFFER],

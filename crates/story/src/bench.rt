@@ -28,7 +28,7 @@ pub(crate) struct Bench {
 fn written(answer: Result<Answer, Refusal>) -> anyhow::Result<usize> {
     match answer {
         Ok(answer) => Ok(answer.count),
-        Err(refusal) => Err(refusal.name().into()),
+        Err(refusal) => Err(anyhow!("{}", refusal.name())),
     }
 }
 
@@ -78,7 +78,7 @@ impl Bench {
     pub fn first(&self) -> anyhow::Result<Response<'_>> {
         match read_response(self.said()) {
             Ok((response, _)) => Ok(response),
-            Err(refusal) => Err(refusal.name().into()),
+            Err(refusal) => Err(anyhow!("{}", refusal.name())),
         }
     }
 }

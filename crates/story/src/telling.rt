@@ -1,3 +1,4 @@
+use anyhow::anyhow;
 use crate::words::Said;
 use packet::read_response;
 use std::fmt::Display;
@@ -40,7 +41,7 @@ impl<W: Write> Telling<W> {
             }
             let (response, behind) = match read_response(rest) {
                 Ok(read) => read,
-                Err(refusal) => return Err(refusal.name().into()),
+                Err(refusal) => return Err(anyhow!("{}", refusal.name())),
             };
             self.line("module", Said(response))?;
             rest = behind;

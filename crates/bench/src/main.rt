@@ -1,4 +1,5 @@
 //! Reads bench lines from standard input, and prints for each what a module makes of it.
+#![tactic(auto)]
 
 ghost use Rattle.std.specs.Prelude.{◌≡◌};
 ghost use Rattle.bench.specs.Shown.{without_end};

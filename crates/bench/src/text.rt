@@ -4,8 +4,8 @@ ghost use Rattle.std.specs.Prelude.{◌≡◌, [], ◌∷◌, ◌++◌, OnOk};
 ghost use Rattle.bench.specs.Printed.{answer_text, given_text, outcome_text, outcomes_text, printed, refusal_text};
 
 use codes::{Numbered, Refusal};
-use engine::{Answer, Outcomes};
 use digits::write_hex;
+use engine::{Answer, Outcomes};
 use packet::Outcome;
 use std::alloc::AllocError;
 

@@ -1,5 +1,5 @@
-use anyhow::anyhow;
 use crate::words::Said;
+use anyhow::anyhow;
 use packet::read_response;
 use std::fmt::Display;
 use std::io;

@@ -27,9 +27,9 @@ abbrev pub outcomes_of : Step → List Outcome
 outcomes_of x = map (λ y. y.outcome) x.said
 
 -- the checksum of ES for the ID 0x9929, and of LT answering three IDs; the IDs in a last block; the templates that leave room for two more
-pub record MarkedCases (enroll-sum list-sum last_block room-for-two : ℕ) : Type 0 where
-  pub enroll_checksum : enroll_checksum ≡ enroll-sum
-  pub list_checksum : (ids : List ℕ) → list_checksum ids ≡ list-sum
+pub record MarkedCases (enroll_sum list_sum last_block room_for_two : ℕ) : Type 0 where
+  pub checksum_enrolling : enroll_checksum ≡ enroll_sum
+  pub checksum_listing : (ids : List ℕ) → list_checksum ids ≡ list_sum
   pub strictness : (strictness_at 0x30 ≡ Some 0) × (strictness_at 0x40 ≡ Some 1) × (strictness_at 0x31 ≡ Some 2)
       × (strictness_at 0x46 ≡ Some 13) × (strictness_at 0x37 ≡ Some 14)
   pub password_sum : highest_password ≡ 0xF0 ∷ 0x0F ∷ []
@@ -38,11 +38,11 @@ pub record MarkedCases (enroll-sum list-sum last_block room-for-two : ℕ) : Typ
       ≡ (record { command = Known ListTemplates; param = last_block; size = 4 * last_block; code = Success }) ∷ []
   pub block_ten : (s : State) → length s.held ≡ 490
       → outcomes_of (list s (asks_block 10)) ≡ (record { command = Known ListTemplates; param = 0; size = 0; code = InvalidId }) ∷ []
-  pub two_more : (s : State) (id : ℕ) → count_of id s.held ≡ room-for-two → 2 ≤ s.room - length s.held
+  pub two_more : (s : State) (id : ℕ) → count_of id s.held ≡ room_for_two → 2 ≤ s.room - length s.held
       → enroll_fault s AddNew id (templates_in TwoTemplates) ≡ None
-  pub two_too_many : (s : State) (id : ℕ) → count_of id s.held ≡ room-for-two + 1
+  pub two_too_many : (s : State) (id : ℕ) → count_of id s.held ≡ room_for_two + 1
       → enroll_fault s AddNew id (templates_in TwoTemplates) ≡ Some FingerLimit
-  pub one_more : (s : State) (id : ℕ) → count_of id s.held ≡ room-for-two + 1 → 1 ≤ s.room - length s.held
+  pub one_more : (s : State) (id : ℕ) → count_of id s.held ≡ room_for_two + 1 → 1 ≤ s.room - length s.held
       → enroll_fault s AddNew id (templates_in Once) ≡ None
   pub angles : (angles_near 250 2 ≡ true) × (angles_near 250 3 ≡ false)
   pub one_row : (bytes : List ℕ) → length bytes ≡ 386 → capacity_of bytes ≡ 1

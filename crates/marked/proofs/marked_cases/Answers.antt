@@ -4,8 +4,8 @@ use Rattle.marked.proofs.marked_cases.Goals as goal
 
 pub returns : goal.returns
 returns c = record {
-  enroll_checksum = refl;
-  list_checksum = λ _. refl;
+  checksum_enrolling = refl;
+  checksum_listing = λ _. refl;
   strictness = (refl, refl, refl, refl, refl);
   password_sum = refl;
   block_nine = block_nine;

@@ -8,6 +8,7 @@ ghost use Rattle.machine.specs.Machine.Event.{finger, packet, second};
 ghost use Rattle.machine.specs.State.{fresh};
 ghost use Rattle.memory.specs.Held.{Held};
 ghost use Rattle.promises.specs.Calls.{Keeps, Run};
+ghost use Rattle.promises.specs.Promises.{Promised};
 
 use crate::answer::{Answer, Outcomes};
 use crate::guard::Cleared;
@@ -89,11 +90,13 @@ impl<M: Matcher, S: Memory> Module<M, S> {
     }
 
     /// A module over a matcher and a memory, which is emptied: unlocked, idle and without administrators, its
-    /// password sixteen zero bytes, its parameters at their first values. A run of the module begins here.
+    /// password sixteen zero bytes, its parameters at their first values. A run of the module begins here, and every promise holds of it.
     pub fn new(matcher: M, memory: S, own: u16) -> Module<M, S>
         ensures made { state M.Matcher S.Memory result ≡ fresh
             (M.Matcher.yes matcher) S.Memory.size (S.Memory.room memory) own }
         ensures begins { Run [] (state M.Matcher S.Memory result) }
+        ensures promises { Promised
+            (fresh (M.Matcher.yes matcher) S.Memory.size (S.Memory.room memory) own) [] [] }
     {
         Module {
             device: Device::new(matcher, memory, own),

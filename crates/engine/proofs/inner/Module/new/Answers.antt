@@ -2,6 +2,7 @@ use Rattle.std.proofs.Common.{[], sym, subst}
 use Rattle.machine.specs.State.{State}
 use Rattle.engine.proofs.Reached.{begins as module-begins}
 use Rattle.promises.proofs.Calls.{begins}
+use Rattle.promises.proofs.Whole.{always-promised}
 use Rattle.promises.specs.Calls.{Run}
 use Rattle.engine.proofs.inner.Module.new.Goals as goal
 
@@ -11,6 +12,7 @@ returns g c =
     record {
       made = c.new.ensures;
       begins = subst P (sym c.new.ensures) (begins (g.M.Matcher.yes c.args.matcher) g.S.Memory.size (g.S.Memory.room c.args.memory) c.args.own);
+      promises = always-promised (g.M.Matcher.yes c.args.matcher) g.S.Memory.size (g.S.Memory.room c.args.memory) c.args.own [];
     }
 
 pub invariant_of-result : goal.invariant_of-result

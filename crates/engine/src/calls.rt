@@ -90,7 +90,8 @@ impl<M: Matcher, S: Memory> Module<M, S> {
     }
 
     /// A module over a matcher and a memory, which is emptied: unlocked, idle and without administrators, its
-    /// password sixteen zero bytes, its parameters at their first values. A run of the module begins here, and every promise holds of it.
+    /// password sixteen zero bytes, its parameters at their first values. A run of the module begins here, and
+    /// every promise holds of it.
     pub fn new(matcher: M, memory: S, own: u16) -> Module<M, S>
         ensures made { state M.Matcher S.Memory result ≡ fresh
             (M.Matcher.yes matcher) S.Memory.size (S.Memory.room memory) own }

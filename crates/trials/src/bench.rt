@@ -109,7 +109,9 @@ impl Bench {
             (None, None) => Ok(()),
             (Some(outcome), Some(code)) => {
                 self.size = outcome.size;
-                assert_eq!(outcome.code.number(), code.number());
+                if outcome.code.number() != code.number() {
+                    return Err(Fail::new("another code"));
+                }
                 Ok(())
             }
             (Some(_), None) => Err(Fail::new("an outcome")),

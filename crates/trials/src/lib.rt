@@ -1,4 +1,5 @@
 //! Trials of a module: what the recorded runs of a bench do not show.
+#![tactic(auto)]
 
 #[cfg(test)]
 mod bench;

@@ -243,7 +243,8 @@ fn decide_in<M: Matcher, S: Memory>(
 
 /// What comes to a module whose lock lets it through, if an enrolment that waits can be carried out, as in every
 /// module that calls have led to. Templates are compared in `work`, which is the caller's to clear; where it is shorter
-/// than the longest template, all is refused. A refusal changes nothing.
+/// than the longest template, all is refused, and a request that would start is where it lacks the data that its Size
+/// says. A refusal changes nothing.
 pub fn decide<M: Matcher, S: Memory>(
     device: &mut Device<M, S>,
     event: Event<'_>,

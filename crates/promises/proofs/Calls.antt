@@ -8,7 +8,7 @@ use Rattle.promises.specs.Calls.{Keeps, Run, making}
 use Rattle.promises.specs.Promises.{Promised}
 use Rattle.promises.specs.Record.{Entry, entry_of, told}
 use Rattle.promises.specs.Runs.{Reached, answered}
-use Rattle.promises.proofs.Alike.{locked-alike}
+use Rattle.promises.proofs.Alike.{locked-alike, locked-idle}
 use Rattle.promises.proofs.Whole.{always-promised}
 
 pub begins : (agree : List ℕ → List ℕ → ℕ → Bool) (size room own : ℕ) → Run [] (fresh agree size room own)
@@ -44,6 +44,7 @@ keeps v c a n w answer count led =
       same_making = λ x r. refl;
       one_longer = λ x r. refl;
       promised = λ x r. promised-run (e ∷ x) w (on x r);
+      idle = λ x r l. locked-idle w (reached (e ∷ x) w (on x r)) l;
       alike = λ x r y b s t cs. locked-alike w b (reached (e ∷ x) w (on x r)) (reached y b s) t.first_locked
           t.second_locked t.password t.own t.network cs;
     }

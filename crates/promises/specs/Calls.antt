@@ -1,5 +1,5 @@
 -- What a public call's contract carries of the laws of runs.
-use Rattle.std.specs.Prelude.{◌≡◌, ℕ, Bool, true, List, ◌∷◌}
+use Rattle.std.specs.Prelude.{◌≡◌, ℕ, Bool, true, List, ◌∷◌, None}
 use Rattle.machine.specs.Machine.{Call, after}
 use Rattle.machine.specs.State.{State, fresh}
 use Rattle.promises.specs.Locked.{shown_locked}
@@ -35,5 +35,7 @@ pub record Keeps (v : State) (e : Entry) (w : State) : Type 0 where
   pub same_making : (x : List Entry) (r : Run x v) → making (goes_on x r) ≡ making r
   pub one_longer : (x : List Entry) (r : Run x v) → (goes_on x r).calls ≡ e.call ∷ r.calls
   pub promised : (x : List Entry) (r : Run x v) → Promised (making r) (e.call ∷ r.calls) (told r.own (e ∷ x))
-  -- locked, it cannot be told apart from any other that has a run and is locked alike
+  -- locked, it awaits nothing
+  pub idle : (x : List Entry) → Run x v → w.locked ≡ true → w.waiting ≡ None
+  -- and cannot be told apart from any other that has a run and is locked alike
   pub alike : (x : List Entry) → Run x v → (y : List Entry) (b : State) → Run y b → Twins w b → (cs : List Call) → shown_locked w cs ≡ shown_locked b cs

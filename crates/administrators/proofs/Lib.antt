@@ -1,4 +1,2 @@
-pub mod InUse
 pub mod Places
 pub mod Rows
-pub mod Struck

@@ -7,7 +7,7 @@ ghost use Rattle.administrators.specs.Table.{rows_of};
 ghost use Rattle.machine.specs.Administrators.{any_admin, changed, level_of, struck};
 ghost use Rattle.rows.specs.Rows.{place_of};
 
-use crate::table::ROWS;
+use arrayvec::ArrayVec;
 use machine::{AdminRow, Level};
 use rows::{find, strike};
 
@@ -24,44 +24,32 @@ impl Administrators {
     pub fn new() -> Administrators
         ensures { rows_of result ≡ [] }
     {
-        let unused = AdminRow {
-            id: 0,
-            level: Level::All,
-        };
         Administrators {
-            rows: [unused; ROWS],
-            count: 0,
+            rows: ArrayVec::new(),
         }
     }
 
     /// The place of the ID's row.
     fn place_of(&self, id: u16) -> Option<usize>
         ensures value { result ≡ place_of (λ row. row.id) id (rows_of self.now) }
-        ensures within { IfSome result (λ at. at < self.now.count) }
+        ensures within { IfSome result (λ at. at < length (rows_of self.now)) }
     {
-        find(&self.rows[0..self.count], id)
+        find(&self.rows, id)
     }
 
     /// What the ID may do, if it is an administrator.
     pub fn level_of(&self, id: u16) -> Option<Level>
         ensures { result ≡ level_of id (rows_of self.now) }
     {
-        match self.place_of(id) {
-            Some(at) => Some(self.rows[at].level),
-            None => None,
-        }
+        let at = self.place_of(id)?;
+        Some(self.rows[at].level)
     }
 
     /// Whether some administrator has the right: where none has, what asks for one is refused at once.
     pub fn any_may(&self, right: Right) -> bool
         ensures { result ≡ any_admin (permits right) (rows_of self.now) }
     {
-        for row in &self.rows[0..self.count] {
-            if right.comes_with(row.level) {
-                return true;
-            }
-        }
-        false
+        self.rows.iter().any(|row| right.comes_with(row.level))
     }
 
     /// Gives the ID the level: in its row, or in a new one behind the others. False where there is no row for it.
@@ -75,22 +63,20 @@ impl Administrators {
             (rows_of self.old)) }
     {
         match self.place_of(id) {
-            Some(at) => self.rows[at].set_level(level),
-            None if self.count < ROWS => {
-                self.rows[self.count] = AdminRow { id, level };
-                self.count += 1;
+            Some(at) => {
+                self.rows[at].set_level(level);
+                true
             }
-            None => return false,
+            None => self.rows.try_push(AdminRow { id, level }).is_ok(),
         }
-        true
     }
 
     /// Strikes the row of the ID, if there is one.
     pub fn strike(&mut self, id: u16)
         ensures { rows_of self.new ≡ struck id (rows_of self.old) }
     {
-        if strike(&mut self.rows[0..self.count], id) {
-            self.count -= 1;
+        if strike(&mut self.rows, id) {
+            self.rows.pop();
         }
     }
 
@@ -98,6 +84,6 @@ impl Administrators {
     pub fn clear(&mut self)
         ensures { rows_of self.new ≡ [] }
     {
-        self.count = 0;
+        self.rows.clear();
     }
 }

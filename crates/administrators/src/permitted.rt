@@ -17,9 +17,9 @@ impl Allowed for Permitted<'_> {
     ghost allowed = { λ s id. is_admin (permits s.right) (rows_of s.table.now) id };
 
     fn allows(&self, id: u16) -> bool {
-        match self.table.level_of(id) {
-            Some(level) => self.right.comes_with(level),
-            None => false,
-        }
+        let right = self.right;
+        self.table
+            .level_of(id)
+            .is_some_and(|level| right.comes_with(level))
     }
 }

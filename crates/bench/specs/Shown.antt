@@ -1,5 +1,5 @@
 -- How what is printed belongs to a line.
-use Rattle.std.specs.Prelude.{◌≡◌, ℕ, ◌-◌, cond, ◌&&◌, List, [], ◌∷◌, ◌++◌, length, take, is_some, Option, Result, ◌==◌, nat_lt, slice_index}
+use Rattle.std.specs.Prelude.{◌≡◌, ℕ, List, [], ◌∷◌, ◌++◌, is_some, Option, Result}
 use Rattle.codes.specs.declared.refusal.Refusal.{Refusal}
 use Rattle.engine.specs.declared.answer.Answer.{Answer}
 use Rattle.benchline.specs.Lines.{bench_line}
@@ -10,7 +10,3 @@ pub record Shown (line text out : List ℕ) : Type 0 where
   pub given : Option (Result Answer Refusal)
   pub asked : is_some given ≡ is_some (bench_line line)
   pub is : text ≡ printed given out ++ 10 ∷ []
-
--- a line as it was read, without its end
-abbrev pub without_end : List ℕ → List ℕ
-without_end xs = cond (nat_lt 0 (length xs) && slice_index xs (length xs - 1) == 10) (take (length xs - 1) xs) xs

@@ -1,9 +1,6 @@
 //! Reads bench lines from standard input, and prints for each what a module makes of it.
 #![tactic(auto)]
 
-ghost use Rattle.std.specs.Prelude.{◌≡◌};
-ghost use Rattle.bench.specs.Shown.{without_end};
-
 mod options;
 mod session;
 mod text;
@@ -22,16 +19,6 @@ const PAGE: usize = 256;
 
 const ROW: usize = 386;
 
-/// A line without its end, which the last one may lack.
-fn without_end(line: &[u8]) -> &[u8]
-    ensures { result.now ≡ without_end line.now }
-{
-    match line {
-        [asked @ .., b'\n'] => asked,
-        _ => line,
-    }
-}
-
 /// Runs a module until the input ends.
 fn serve<M: Matcher + Drop, S: Memory + Drop>(
     rt: &HostRuntime,
@@ -39,16 +26,10 @@ fn serve<M: Matcher + Drop, S: Memory + Drop>(
 ) -> anyhow::Result<()> {
     let heap = rt.alloc();
     let mut session = Session::new(heap, module);
-    let mut input = BufReader::new(heap, rt.stdin())?;
     let mut output = BufWriter::new(heap, rt.stdout())?;
-    let mut line = Vec::new(heap);
     let mut text = Vec::new(heap);
-    for _ in 0..u64::MAX {
-        line.clear();
-        if input.read_until(b'\n', &mut line)? == 0 {
-            break;
-        }
-        session.take_line(without_end(&line), &mut text)?;
+    for line in BufReader::new(heap, rt.stdin())?.split(heap, b'\n') {
+        session.take_line(&line?, &mut text)?;
         output.write_all(&text)?;
     }
     output.flush()?;

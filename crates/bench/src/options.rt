@@ -1,7 +1,8 @@
 ghost use Rattle.std.specs.Prelude.{◌≡◌, not, is_some, is_ok, if◌then◌else◌, Some};
 
-use anyhow::anyhow;
+use anyhow::{Context, anyhow};
 use std::env;
+use std::str::FromStr;
 
 const USAGE: &str = "usage: bench [--pages N | --rows N] [--matcher byte|point] [--number N]";
 
@@ -16,6 +17,18 @@ pub(crate) enum MemoryKind {
 pub(crate) enum MatcherKind {
     Byte,
     Point,
+}
+
+impl FromStr for MatcherKind {
+    type Err = anyhow::Error;
+
+    fn from_str(value: &str) -> anyhow::Result<MatcherKind> {
+        match value {
+            "byte" => Ok(MatcherKind::Byte),
+            "point" => Ok(MatcherKind::Point),
+            _ => Err(anyhow!("--matcher wants byte or point")),
+        }
+    }
 }
 
 /// What the module is made of.
@@ -35,18 +48,8 @@ struct Given {
 }
 
 fn number_of(value: &str) -> anyhow::Result<u16> {
-    match value.parse::<u16>() {
-        Ok(number) => Ok(number),
-        Err(_) => Err(anyhow!("--pages, --rows and --number want a number from 0 to 65535")),
-    }
-}
-
-fn matcher_of(value: &str) -> anyhow::Result<MatcherKind> {
-    match value {
-        "byte" => Ok(MatcherKind::Byte),
-        "point" => Ok(MatcherKind::Point),
-        _ => Err(anyhow!("--matcher wants byte or point")),
-    }
+    let number = value.parse().ok();
+    number.context("--pages, --rows and --number want a number from 0 to 65535")
 }
 
 impl Given {
@@ -66,7 +69,7 @@ impl Given {
         match name {
             "--pages" => self.set_memory(MemoryKind::Pages(number_of(value)?))?,
             "--rows" => self.set_memory(MemoryKind::Rows(number_of(value)?))?,
-            "--matcher" => self.matcher = matcher_of(value)?,
+            "--matcher" => self.matcher = value.parse()?,
             "--number" => self.number = number_of(value)?,
             _ => return Err(anyhow!("{USAGE}")),
         }

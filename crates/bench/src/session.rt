@@ -3,7 +3,7 @@ ghost use Rattle.bench.specs.Shown.{Shown};
 ghost use Rattle.benchline.specs.Lines.{bench_line};
 
 use crate::text::write_printed;
-use benchline::{Fault, Line, read_line};
+use benchline::{Line, read_line};
 use codes::Refusal;
 use engine::{Answer, Module};
 use matcher::Matcher;
@@ -58,13 +58,12 @@ impl<M: Matcher, S: Memory> Session<M, S> {
             → self.new.«module» ≡ self.old.«module» }
     {
         text.clear();
-        match read_line(line, &mut self.bytes) {
-            Ok(asked) => {
+        match read_line(line, &mut self.bytes)? {
+            Some(asked) => {
                 let given = call(&mut self.module, asked, &mut self.out, &mut self.work);
                 write_printed(text, Some(given), &self.out)
             }
-            Err(Fault::IllFormed) => write_printed(text, None, &self.out),
-            Err(Fault::Memory) => Err(AllocError),
+            None => write_printed(text, None, &self.out),
         }
     }
 }

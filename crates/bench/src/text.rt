@@ -3,7 +3,7 @@
 ghost use Rattle.std.specs.Prelude.{◌≡◌, [], ◌∷◌, ◌++◌, OnOk};
 ghost use Rattle.bench.specs.Printed.{answer_text, given_text, outcome_text, outcomes_text, printed, refusal_text};
 
-use codes::{Numbered, Refusal};
+use codes::Refusal;
 use digits::write_hex;
 use engine::{Answer, Outcomes};
 use packet::Outcome;
@@ -13,7 +13,7 @@ use std::alloc::AllocError;
 fn write_outcome(text: &mut Vec<u8>, outcome: Outcome) -> Result<(), AllocError>
     ensures { OnOk result (text.new.items ≡ text.old.items ++ outcome_text outcome) }
 {
-    write_hex(text, &[outcome.command.byte(), outcome.code.number()])
+    write_hex(text, &[u8::from(outcome.command), u8::from(outcome.code)])
 }
 
 /// Writes outcomes, with a blank between two.
@@ -45,7 +45,7 @@ fn write_answer(text: &mut Vec<u8>, outcomes: Outcomes, written: &[u8]) -> Resul
 fn write_refusal(text: &mut Vec<u8>, refusal: Refusal) -> Result<(), AllocError>
     ensures { OnOk result (text.new.items ≡ text.old.items ++ refusal_text refusal) }
 {
-    text.extend_from_slice(&[b'!', b'0' + refusal.number()])
+    text.extend_from_slice(&[b'!', b'0' + u8::from(refusal)])
 }
 
 /// Writes what a call gave, whose answer lies at the front of `out`.
@@ -60,7 +60,7 @@ fn write_given(
     match given {
         Ok(answer) => {
             let count = answer.count.min(out.len());
-            write_answer(text, answer.outcomes, &out[0..count])
+            write_answer(text, answer.outcomes, &out[..count])
         }
         Err(refusal) => write_refusal(text, refusal),
     }

@@ -1,12 +1,8 @@
 -- What a bench line asks.
-use Rattle.std.specs.Prelude.{◌≡◌, ℕ, cond, List, [], ◌∷◌, Some, None, Option, ◌==◌}
+use Rattle.std.specs.Prelude.{ℕ, cond, List, [], ◌∷◌, Some, None, Option, ◌==◌}
 use Rattle.std.specs.Option.{option_map}
 use Rattle.std.specs.Result.{result_ok}
 use Rattle.digits.specs.Digits.{hex_bytes, hex_text}
-use Rattle.digits.specs.declared.Fault.{Fault as DigitsFault}
-use Rattle.digits.specs.declared.Fault.TheVariants.{NoDigit, Odd, Memory as NoMemory}
-use Rattle.benchline.specs.declared.Fault.{Fault}
-use Rattle.benchline.specs.declared.Fault.TheVariants.{IllFormed, Memory}
 use Rattle.benchline.specs.declared.Line.{Line}
 use Rattle.benchline.specs.declared.Line.TheVariants.{Packet, Finger, Second}
 
@@ -65,14 +61,3 @@ abbrev pub seen : Line → Asked
 seen (Packet frame) = packet frame.now
 seen (Finger quality scan) = finger quality scan.now
 seen Second = second
-
--- a fault of the digits is the line's
-abbrev pub from_digits : DigitsFault → Fault
-from_digits (NoDigit at) = IllFormed
-from_digits Odd = IllFormed
-from_digits NoMemory = Memory
-
--- a fault is the line's, but for want of memory
-abbrev pub Because : {X : Type 0} → Fault → Option X → Type 0
-Because IllFormed o = o ≡ None
-Because Memory o = Unit {0}

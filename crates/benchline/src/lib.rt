@@ -1,12 +1,14 @@
 //! A line of the bench, read as what it asks of a module.
 #![tactic(auto)]
 
-ghost use Rattle.std.specs.Prelude.{◌≡◌, ◌/◌, ◌<◌, [], ◌∷◌, length, IfOk, IfErr, Some, None, vec_capacity, codes, MatchResult};
-ghost use Rattle.benchline.specs.Lines.{Because, bench_line, blank, bytes_behind, finger, from_digits, line_text, packet, second, seen};
+ghost use Rattle.std.specs.Prelude.{◌≡◌, ◌/◌, ◌<◌, [], ◌∷◌, length, IfOk, IfSome, OnErr, Some, None, vec_capacity, codes};
+ghost use Rattle.benchline.specs.Lines.{bench_line, blank, bytes_behind, finger, finger_of, line_text, packet, second, seen};
 ghost use Rattle.digits.specs.Digits.{hex_text};
 ghost use Rattle.std.specs.List.{AllByRecursion};
+ghost use Rattle.std.specs.Option.{option_copied, option_map};
 
-use digits::read_hex_into;
+use digits::{Fault, read_hex_into};
+use std::alloc::AllocError;
 
 /// What a line asks. Its bytes lie in the buffer that the line was read into.
 #[derive(Clone, Copy)]
@@ -19,66 +21,50 @@ pub enum Line<'a> {
     Second,
 }
 
-/// Why a line asks nothing.
-#[derive(Clone, Copy, PartialEq, Eq, Debug)]
-pub enum Fault {
-    /// It is no bench line.
-    IllFormed,
-    /// There is no memory for its bytes.
-    Memory,
-}
-
-impl From<digits::Fault> for Fault {
-    ghost from_gives = { λ of fault. fault ≡ from_digits of };
-
-    fn from(of: digits::Fault) -> Fault {
-        match of {
-            digits::Fault::NoDigit(_) | digits::Fault::Odd => Fault::IllFormed,
-            digits::Fault::Memory => Fault::Memory,
-        }
+/// The bytes whose digits stand behind one blank, in the buffer.
+fn bytes_behind<'a>(rest: &[u8], buffer: &'a mut Vec<u8>) -> Result<Option<&'a [u8]>, AllocError>
+    ensures value { IfOk result (λ bytes. option_copied bytes ≡ bytes_behind rest.now) }
+    ensures back { IfOk result (λ bytes. IfSome bytes (λ b. blank ∷ hex_text b.now ≡ rest.now)) }
+    ensures room { OnErr result (vec_capacity buffer.old < length rest.now / 2) }
+{
+    let [b' ', digits @ ..] = rest else {
+        return Ok(None);
+    };
+    match read_hex_into(digits, buffer) {
+        Ok(()) => Ok(Some(buffer.as_slice())),
+        Err(Fault::NoDigit(_) | Fault::Odd) => Ok(None),
+        Err(Fault::Memory(error)) => Err(error),
     }
 }
 
-/// The bytes whose digits stand behind one blank, in the buffer.
-fn bytes_behind<'a>(rest: &[u8], buffer: &'a mut Vec<u8>) -> Result<&'a [u8], Fault>
-    ensures value { MatchResult result
-        (λ bytes. bytes_behind rest.now ≡ Some bytes.now)
-        (λ e. Because e (bytes_behind rest.now)) }
-    ensures back { IfOk result (λ bytes. blank ∷ hex_text bytes.now ≡ rest.now) }
-    ensures room { IfErr result (λ e. e ≡ Fault.Memory
-        → vec_capacity buffer.old < length rest.now / 2) }
+/// A finger, whose quality comes first.
+fn finger_of(bytes: &[u8]) -> Option<Line<'_>>
+    ensures { option_map seen result ≡ finger_of (Some bytes.now) }
 {
-    let [b' ', digits @ ..] = rest else {
-        return Err(Fault::IllFormed);
-    };
-    read_hex_into(digits, buffer)?;
-    Ok(buffer.as_slice())
+    match bytes {
+        [quality, scan @ ..] => Some(Line::Finger {
+            quality: *quality,
+            scan,
+        }),
+        [] => None,
+    }
 }
 
-/// Reads a line, which comes without its end. The buffer is lent so that one serves all lines:
-/// once it has room for the longest, no more memory is wanted.
-pub fn read_line<'a>(line: &[u8], buffer: &'a mut Vec<u8>) -> Result<Line<'a>, Fault>
-    ensures value { MatchResult result
-        (λ l. bench_line line.now ≡ Some (seen l))
-        (λ e. Because e (bench_line line.now)) }
-    ensures back { IfOk result (λ l. line_text (seen l) ≡ line.now) }
-    ensures room { IfErr result (λ e. e ≡ Fault.Memory
-        → vec_capacity buffer.old < length line.now / 2) }
+/// Reads a line, which comes without its end; an ill-formed one asks nothing. The buffer is lent so that one serves
+/// all lines: once it has room for the longest, no more memory is wanted.
+pub fn read_line<'a>(line: &[u8], buffer: &'a mut Vec<u8>) -> Result<Option<Line<'a>>, AllocError>
+    ensures value { IfOk result (λ asked. option_map seen asked ≡ bench_line line.now) }
+    ensures back { IfOk result (λ asked. IfSome asked (λ l. line_text (seen l) ≡ line.now)) }
+    ensures room { OnErr result (vec_capacity buffer.old < length line.now / 2) }
 {
     let [letter, rest @ ..] = line else {
-        return Err(Fault::IllFormed);
+        return Ok(None);
     };
     match char::from(*letter) {
-        'P' => Ok(Line::Packet(bytes_behind(rest, buffer)?)),
-        'F' => match bytes_behind(rest, buffer)? {
-            [quality, scan @ ..] => Ok(Line::Finger {
-                quality: *quality,
-                scan,
-            }),
-            [] => Err(Fault::IllFormed),
-        },
-        'S' if rest.is_empty() => Ok(Line::Second),
-        _ => Err(Fault::IllFormed),
+        'P' => Ok(bytes_behind(rest, buffer)?.map(Line::Packet)),
+        'F' => Ok(bytes_behind(rest, buffer)?.and_then(finger_of)),
+        'S' if rest.is_empty() => Ok(Some(Line::Second)),
+        _ => Ok(None),
     }
 }
 

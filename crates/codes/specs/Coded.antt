@@ -16,3 +16,8 @@ coded number_of cases n = kept n (case_of number_of cases n)
 abbrev pub byte_of : {C : Type 0} → (C → ℕ) → Coded C → ℕ
 byte_of number_of (Known c) = number_of c
 byte_of number_of (Unknown n) = n
+
+-- what is printed: what the case prints; of an unknown byte nothing is said
+abbrev pub coded_text : {C : Type 0} → (C → Option (List ℕ)) → Coded C → Option (List ℕ)
+coded_text text (Known c) = text c
+coded_text text (Unknown n) = None

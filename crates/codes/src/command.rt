@@ -1,11 +1,13 @@
-ghost use Rattle.std.specs.Prelude.{◌≡◌};
+ghost use Rattle.std.specs.Prelude.{◌≡◌, Some};
 ghost use Rattle.codes.specs.Commands.{command_name, command_number, commands};
-ghost use Rattle.std.proofs.Common.{rules};
+ghost use Rattle.codes.specs.Numbers.{numbered};
+ghost use Rattle.codes.specs.Known.{command-apart};
 
-use crate::numbered::Numbered;
+use crate::numbered::{NoCase, Numbered};
+use std::fmt;
 
 /// The commands of the base machine.
-#[derive(Clone, Copy, Debug)]
+#[derive(Clone, Copy, PartialEq, Eq, Debug)]
 pub enum Command {
     /// SW: writes the value in Size to the system parameter in the flag.
     WriteParameter = 0x01,
@@ -70,37 +72,59 @@ impl Command {
     }
 }
 
+impl fmt::Display for Command {
+    ghost output = { λ case. Some (command_name case) };
+
+    fn fmt<W: fmt::Write>(&self, f: &mut fmt::Formatter<W>) -> fmt::Result {
+        f.write_str(self.name())
+    }
+}
+
+impl From<Command> for u8 {
+    ghost from_gives = { λ case number. number ≡ command_number case };
+
+    fn from(case: Command) -> u8 {
+        case as u8
+    }
+}
+
+impl TryFrom<u8> for Command {
+    type Error = NoCase;
+
+    ghost try_from_gives = { λ number case. case ≡ numbered command_number commands number };
+
+    fn try_from(byte: u8) -> Result<Command, NoCase> {
+        match byte {
+            0x01 => Ok(Command::WriteParameter),
+            0x03 => Ok(Command::ReadParameter),
+            0x05 => Ok(Command::Enroll),
+            0x07 => Ok(Command::EnrollTemplate),
+            0x08 => Ok(Command::Verify),
+            0x11 => Ok(Command::Identify),
+            0x14 => Ok(Command::ReadTemplate),
+            0x16 => Ok(Command::Delete),
+            0x17 => Ok(Command::DeleteAll),
+            0x18 => Ok(Command::ListTemplates),
+            0x60 => Ok(Command::Cancel),
+            0x65 => Ok(Command::WriteLevel),
+            0x70 => Ok(Command::EnrollByAdministrator),
+            0x72 => Ok(Command::DeleteByAdministrator),
+            0xB0 => Ok(Command::Unlock),
+            0xB1 => Ok(Command::Lock),
+            0xB2 => Ok(Command::ChangePassword),
+            _ => Err(NoCase(byte)),
+        }
+    }
+}
+
 impl Numbered for Command {
     ghost number_of = { command_number };
 
     ghost cases = { commands };
 
-    ghost apart = { Prim.search rules };
+    ghost gives = { λ c n is. is };
 
-    fn number(self) -> u8 {
-        self as u8
-    }
+    ghost found = { λ n r is. is };
 
-    fn numbered(byte: u8) -> Option<Command> {
-        match byte {
-            0x01 => Some(Command::WriteParameter),
-            0x03 => Some(Command::ReadParameter),
-            0x05 => Some(Command::Enroll),
-            0x07 => Some(Command::EnrollTemplate),
-            0x08 => Some(Command::Verify),
-            0x11 => Some(Command::Identify),
-            0x14 => Some(Command::ReadTemplate),
-            0x16 => Some(Command::Delete),
-            0x17 => Some(Command::DeleteAll),
-            0x18 => Some(Command::ListTemplates),
-            0x60 => Some(Command::Cancel),
-            0x65 => Some(Command::WriteLevel),
-            0x70 => Some(Command::EnrollByAdministrator),
-            0x72 => Some(Command::DeleteByAdministrator),
-            0xB0 => Some(Command::Unlock),
-            0xB1 => Some(Command::Lock),
-            0xB2 => Some(Command::ChangePassword),
-            _ => None,
-        }
-    }
+    ghost apart = { command-apart };
 }

@@ -57,7 +57,7 @@ waiting_of form left (Some phase) = Some (record { form = form; phase = phase; l
 abbrev pub view : {M S : Type 0} → Matching M → Remembering S → Device M S → State
 view f g d = record {
   agree = f.yes d.matcher;
-  size = g.size;
+  size = g.T;
   room = g.room d.memory;
   held = g.held d.memory;
   own = d.own;
@@ -65,7 +65,7 @@ view f g d = record {
   password = d.password;
   settings = d.settings;
   admins = rows_of d.admins;
-  waiting = waiting_of d.form d.left (phase_of g.size d.first d.awaited);
+  waiting = waiting_of d.form d.left (phase_of g.T d.first d.awaited);
 }
 
 -- the data of an outcome

@@ -32,7 +32,7 @@ impl<M: Matcher, S: Memory> Device<M, S> {
     /// A fresh module's, over an emptied memory.
     pub fn new(matcher: M, mut memory: S, own: u16) -> Device<M, S>
         ensures { view M.Matcher S.Memory result ≡ fresh
-            (M.Matcher.yes matcher) S.Memory.size (S.Memory.room memory) own }
+            (M.Matcher.yes matcher) S.Memory.T (S.Memory.room memory) own }
     {
         memory.clear();
         Device {
@@ -58,7 +58,7 @@ impl<M: Matcher, S: Memory> Device<M, S> {
         ensures { view M.Matcher S.Memory self.new ≡ awaiting
             (view M.Matcher S.Memory self.old)
             (waiting_of form self.old.settings.timeout
-            (phase_of S.Memory.size self.old.first awaited)) }
+            (phase_of S.Memory.T self.old.first awaited)) }
     {
         self.awaited = awaited;
         self.form = form;

@@ -12,12 +12,9 @@ pub fn delete_all_of<S: Memory>(memory: &mut S, id: u16)
     ensures after { S.Memory.held memory.new ≡ without id (S.Memory.held memory.old) }
     ensures room_same { S.Memory.room memory.new ≡ S.Memory.room memory.old }
 {
-    let mut place = 0;
-    while let Some(other) = memory.id_at(place) {
-        if other == id {
+    for place in (0..memory.count()).rev() {
+        if memory.id_at(place) == Some(id) {
             memory.remove(place);
-        } else {
-            place += 1;
         }
     }
 }
@@ -28,19 +25,15 @@ fn make_way<S: Memory>(memory: &mut S, enrollment: Enrollment)
         enrollment.flag enrollment.id (S.Memory.held memory.old) }
     ensures room_same { S.Memory.room memory.new ≡ S.Memory.room memory.old }
 {
-    match enrollment.flag {
-        EnrollFlag::Replace => delete_all_of(memory, enrollment.id),
-        EnrollFlag::CheckId => {}
-        EnrollFlag::AddNew => {}
-        EnrollFlag::AutoId => {}
-        EnrollFlag::CheckFinger => {}
+    if enrollment.flag == EnrollFlag::Replace {
+        delete_all_of(memory, enrollment.id);
     }
 }
 
 /// Enrols one template. That there is room for it was tested when the request came.
 pub fn enroll_one<S: Memory>(memory: &mut S, enrollment: Enrollment, template: &[u8])
     ensures after { S.Memory.held memory.new ≡ add_after
-        S.Memory.size
+        S.Memory.T
         (S.Memory.room memory.old)
         (staying enrollment.flag enrollment.id (S.Memory.held memory.old))
         enrollment.id template.now }
@@ -53,10 +46,10 @@ pub fn enroll_one<S: Memory>(memory: &mut S, enrollment: Enrollment, template: &
 /// Enrols two templates, in this order. That there is room for them was tested when the request came.
 pub fn enroll_two<S: Memory>(memory: &mut S, enrollment: Enrollment, one: &[u8], two: &[u8])
     ensures after { S.Memory.held memory.new ≡ add_after
-        S.Memory.size
+        S.Memory.T
         (S.Memory.room memory.old)
         (add_after
-        S.Memory.size
+        S.Memory.T
         (S.Memory.room memory.old)
         (staying enrollment.flag enrollment.id (S.Memory.held memory.old))
         enrollment.id one.now)

@@ -51,4 +51,4 @@ hex_bytes digits = bytes_from 0 digits
 abbrev pub Because : Fault → Result (List ℕ) Fault → Type 0
 Because (NoDigit at) r = r ≡ Err (NoDigit at)
 Because Odd r = r ≡ Err Odd
-Because Memory r = Unit {0}
+Because (Memory of) r = Unit {0}

@@ -1,8 +1,9 @@
 //! Bytes written as pairs of hexadecimal digits, 0 to 9 and A to F.
 #![tactic(auto)]
 
-ghost use Rattle.std.specs.Prelude.{◌≡◌, ◌+◌, ◌*◌, ◌/◌, ◌^◌, ◌<◌, ◌++◌, length, IfOk, IfErr, Ok, vec_len, vec_capacity, MatchResult, OnErr, OnOk};
+ghost use Rattle.std.specs.Prelude.{◌≡◌, ◌+◌, ◌*◌, ◌/◌, ◌^◌, ◌<◌, ◌++◌, length, IfOk, IfErr, Ok, alloc_error, vec_len, vec_capacity, MatchResult, OnErr, OnOk};
 ghost use Rattle.digits.specs.Digits.{Because, byte_from, digit_from, digit_of, digit_value, hex_bytes, hex_text};
+ghost use Rattle.digits.specs.declared.Fault.TheVariants.{Memory};
 
 use std::alloc::{AllocError, Global};
 
@@ -14,7 +15,15 @@ pub enum Fault {
     /// There are only digits, and the last one has no partner.
     Odd,
     /// There is no memory for the bytes.
-    Memory,
+    Memory(AllocError),
+}
+
+impl From<AllocError> for Fault {
+    ghost from_gives = { λ error fault. fault ≡ Memory error };
+
+    fn from(error: AllocError) -> Fault {
+        Fault::Memory(error)
+    }
 }
 
 /// The value of a digit.
@@ -32,10 +41,7 @@ pub fn digit_value(c: char) -> Option<u8>
 fn digit_from(at: usize, b: u8) -> Result<u8, Fault>
     ensures { result ≡ digit_from at b }
 {
-    match digit_value(char::from(b)) {
-        Some(value) => Ok(value),
-        None => Err(Fault::NoDigit(at)),
-    }
+    digit_value(char::from(b)).ok_or(Fault::NoDigit(at))
 }
 
 /// The byte of two digits, of which the first stands at the place `at`.
@@ -67,22 +73,17 @@ pub fn read_hex_into(digits: &[u8], bytes: &mut Vec<u8>) -> Result<(), Fault>
         (λ _. hex_bytes digits.now ≡ Ok bytes.new.items)
         (λ e. Because e (hex_bytes digits.now)) }
     ensures back { OnOk result (hex_text bytes.new.items ≡ digits.now) }
-    ensures room { IfErr result (λ e. e ≡ Fault.Memory
+    ensures room { IfErr result (λ e. e ≡ Fault.Memory alloc_error
         → vec_capacity bytes.old < length digits.now / 2) }
 {
     bytes.clear();
-    if bytes.reserve(digits.len() / 2).is_err() {
-        return Err(Fault::Memory);
+    bytes.reserve(digits.len() / 2)?;
+    let (pairs, last) = digits.as_chunks::<2>();
+    for (index, [high, low]) in pairs.iter().enumerate() {
+        bytes.push_reserved(byte_from(2 * index, *high, *low)?);
     }
-    let mut at: usize = 0;
-    let mut rest = digits;
-    while let [high, low, more @ ..] = rest {
-        bytes.push_reserved(byte_from(at, *high, *low)?);
-        at += 2;
-        rest = more;
-    }
-    if let [last, ..] = rest {
-        digit_from(at, *last)?;
+    if let [digit] = last {
+        digit_from(digits.len() - 1, *digit)?;
         return Err(Fault::Odd);
     }
     Ok(())

@@ -1,9 +1,11 @@
 -- Outcomes that are written, with room for all of them.
-use Rattle.std.proofs.Common.{◌≡◌, ℕ, ◌+◌, ◌-◌, ◌^◌, ◌<◌, ◌≤◌, Bool, true, false, cond, eqb, List, ◌++◌, length, take, drop, Some, None, Option, unwrap_or, sym, refl, ap, ◌∙◌, subst, ⊎_elim, arith}
+use Rattle.std.proofs.Common.{◌≡◌, ℕ, ◌+◌, ◌-◌, ◌^◌, ◌<◌, ◌≤◌, Bool, true, false, cond, eqb, List, [], ◌++◌, length, take, drop, Some, None, Option, unwrap_or, sym, refl, ap, ◌∙◌, subst, ⊎_elim, arith}
 use borrow.Rule.Slice.PartMut.{put_mid}
 use Rattle.device.specs.View.{data_in}
 use Rattle.device.specs.declared.answers.Data.{Data}
 use Rattle.device.specs.declared.answers.Data.TheVariants.{Ids, Template}
+use Rattle.device.specs.declared.answers.Told.{Told}
+use Rattle.packet.specs.declared.response.Reply.{Reply}
 use Rattle.engine.specs.Wrote.{Wrote}
 use Rattle.requests.proofs.Blocks.{block-length}
 use Rattle.requests.specs.Blocks.{block_of}
@@ -12,7 +14,7 @@ use Rattle.memory.specs.Held.{Held, Sound, held_at, none}
 use Rattle.packet.specs.Around.{data_place, place_in, standing}
 use Rattle.packet.specs.Heads.{head_length}
 use Rattle.packet.specs.Packets.{packet_bytes, written, written_count}
-use Rattle.packet.specs.Responses.{bytes_in, carries, outcome_bytes, outcome_head, reply_form}
+use Rattle.packet.specs.Responses.{bytes_in, carries, outcome_bytes, outcome_head, reply_bytes, reply_form}
 use Rattle.packet.specs.Trips.{ReadAs}
 use Rattle.packet.specs.declared.form.Form.{Form}
 use Rattle.packet.specs.declared.form.Form.TheVariants.{Standard, Network}
@@ -42,6 +44,12 @@ pub settled : (bs out after : List ℕ) (o : Option ℕ) (n : ℕ) → o ≡ wri
 settled bs out after o n e f fits k =
     let t = le-leb (length bs) (length out) fits in
     (k ∙ ap (λ x. unwrap_or x 0) e ∙ ap (λ b. unwrap_or (cond b (Some (length bs)) None) 0) t, f ∙ ap (λ b. cond b (bs ++ drop (length bs) out) out) t)
+
+-- a reply without data is what was told
+pub told-bytes : (own : ℕ) (t : Told) (r : Reply) → r.to ≡ t.to → r.outcome ≡ t.outcome → r.«data».now ≡ []
+    → reply_bytes own r ≡ bytes_in (reply_form own t.to) t.outcome []
+told-bytes own t r e f g = ap (λ to. bytes_in (reply_form own to) r.outcome r.«data».now) e ∙ ap (λ o. bytes_in (reply_form own t.to) o r.«data».now) f
+    ∙ ap (bytes_in (reply_form own t.to) t.outcome) g
 
 -- how long a reply is
 short-head : (f : Form) → head_length f ≤ 15

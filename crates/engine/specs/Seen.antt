@@ -12,8 +12,10 @@ use Rattle.promises.specs.Record.{Entry}
 use Rattle.engine.specs.declared.answer.Answer.{Answer}
 use Rattle.engine.specs.declared.answer.Outcomes.{Outcomes}
 use Rattle.engine.specs.declared.answer.Outcomes.TheVariants.{Nothing, One, Two}
-use Rattle.engine.specs.declared.hearing.Input.{Input}
-use Rattle.engine.specs.declared.hearing.Input.TheVariants.{Frame, Finger, Second}
+use Rattle.std.specs.Borrow.{Bor}
+use Rattle.phases.specs.declared.scan.Event.{Event as Input}
+use Rattle.phases.specs.declared.scan.Event.TheVariants.{Packet, Finger, Second}
+use Rattle.phases.specs.declared.scan.Scan.{Scan}
 use Rattle.engine.specs.declared.inner.Module.{Module}
 
 -- a module, as the machine's state
@@ -25,8 +27,8 @@ abbrev pub call : Event → List ℕ → List ℕ → Call
 call e out work = record { event = e; out = out; work = work }
 
 -- what a call is given, as the machine's event
-abbrev pub event_of : Input → Event
-event_of (Frame frame) = packet frame.now
+abbrev pub event_of : Input (Bor (List ℕ)) Scan → Event
+event_of (Packet frame) = packet frame.now
 event_of (Finger scan) = finger scan.bytes.now scan.quality
 event_of Second = second
 

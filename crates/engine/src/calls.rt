@@ -2,7 +2,6 @@ ghost use Rattle.std.specs.Prelude.{◌≡◌, ◌≤◌, List, [], map, length,
 ghost use Rattle.device.specs.View.{said_in};
 ghost use Rattle.engine.specs.Seen.{call, entry, event_of, listed, state};
 ghost use Rattle.engine.specs.Shows.{Served, Shows};
-ghost use Rattle.engine.specs.declared.hearing.Input.TheVariants.{Second};
 ghost use Rattle.machine.specs.Machine.{step_of};
 ghost use Rattle.machine.specs.Machine.Event.{finger, packet, second};
 ghost use Rattle.machine.specs.State.{fresh};
@@ -12,14 +11,14 @@ ghost use Rattle.promises.specs.Promises.{Promised};
 
 use crate::answer::{Answer, Outcomes};
 use crate::guard::Cleared;
-use crate::hearing::{Input, hear};
+use crate::hearing::hear;
 use crate::inner::Module;
 use crate::writing::write_answers;
 use codes::Refusal;
 use device::{Answers, Device, LONGEST_TEMPLATE};
 use matcher::Matcher;
 use memory::Memory;
-use phases::Scan;
+use phases::{Event, Scan};
 
 /// The least answer buffer: LT's answer for 500 templates has room in it.
 const LEAST_ANSWER_BUFFER: usize = 2048;
@@ -36,32 +35,25 @@ fn outcomes_of(answers: Answers) -> Outcomes
     }
 }
 
-/// The input that a second has passed.
-fn passed() -> Input<'static>
-    ensures { result ≡ Second }
-{
-    Input::Second
-}
-
 impl<M: Matcher, S: Memory> Module<M, S> {
     /// A call whose buffers are long enough: whatever comes of it, the work buffer is cleared.
     fn serve_within(
         &mut self,
-        input: Input<'_>,
+        event: Event<&[u8], Scan<'_>>,
         out: &mut [u8],
         work: &mut [u8],
     ) -> Result<Answer, Refusal>
         requires in_bounds { 2048 ≤ length out.old }
         requires in_bounds_2 { 384 ≤ length work.old }
-        ensures shows { Shows (state M.Matcher S.Memory self.old) (event_of input.entry)
+        ensures shows { Shows (state M.Matcher S.Memory self.old) (event_of event.entry)
             (step_of (state M.Matcher S.Memory self.old)
-            (call (event_of input.entry) out.old work.old)) result
+            (call (event_of event.entry) out.old work.old)) result
             (state M.Matcher S.Memory self.new) out.old out.new }
         ensures cleared { work.new ≡ replicate (length work.old) 0 }
     {
         let guard = Cleared(work);
         let own = self.device.own;
-        let answers = hear(&mut self.device, input, guard.0)?;
+        let answers = hear(&mut self.device, event, guard.0)?;
         let count = write_answers(&self.device.memory, own, out, answers);
         Ok(Answer {
             outcomes: outcomes_of(answers),
@@ -72,12 +64,12 @@ impl<M: Matcher, S: Memory> Module<M, S> {
     /// A call: too short a buffer is refused before all else, and then nothing is touched.
     fn serve(
         &mut self,
-        input: Input<'_>,
+        event: Event<&[u8], Scan<'_>>,
         out: &mut [u8],
         work: &mut [u8],
     ) -> Result<Answer, Refusal>
         ensures { Served (state M.Matcher S.Memory self.old)
-            (call (event_of input.entry) out.old work.old) result
+            (call (event_of event.entry) out.old work.old) result
             (state M.Matcher S.Memory self.new) out.new work.new }
     {
         if out.len() < LEAST_ANSWER_BUFFER {
@@ -86,7 +78,7 @@ impl<M: Matcher, S: Memory> Module<M, S> {
         if work.len() < LONGEST_TEMPLATE {
             return Err(Refusal::WorkBuffer);
         }
-        self.serve_within(input, out, work)
+        self.serve_within(event, out, work)
     }
 
     /// A module over a matcher and a memory, which is emptied: unlocked, idle and without administrators, its
@@ -94,10 +86,10 @@ impl<M: Matcher, S: Memory> Module<M, S> {
     /// every promise holds of it.
     pub fn new(matcher: M, memory: S, own: u16) -> Module<M, S>
         ensures made { state M.Matcher S.Memory result ≡ fresh
-            (M.Matcher.yes matcher) S.Memory.size (S.Memory.room memory) own }
+            (M.Matcher.yes matcher) S.Memory.T (S.Memory.room memory) own }
         ensures begins { Run [] (state M.Matcher S.Memory result) }
         ensures promises { Promised
-            (fresh (M.Matcher.yes matcher) S.Memory.size (S.Memory.room memory) own) [] [] }
+            (fresh (M.Matcher.yes matcher) S.Memory.T (S.Memory.room memory) own) [] [] }
     {
         Module {
             device: Device::new(matcher, memory, own),
@@ -118,7 +110,7 @@ impl<M: Matcher, S: Memory> Module<M, S> {
             (entry (call (packet frame.now) out.old work.old) result)
             (state M.Matcher S.Memory self.new) }
     {
-        self.serve(Input::Frame(frame), out, work)
+        self.serve(Event::Packet(frame), out, work)
     }
 
     /// The sensor has scanned a finger.
@@ -140,7 +132,7 @@ impl<M: Matcher, S: Memory> Module<M, S> {
             bytes: scan,
             quality,
         };
-        self.serve(Input::Finger(scanned), out, work)
+        self.serve(Event::Finger(scanned), out, work)
     }
 
     /// A second has passed.
@@ -152,6 +144,6 @@ impl<M: Matcher, S: Memory> Module<M, S> {
             (entry (call second out.old work.old) result)
             (state M.Matcher S.Memory self.new) }
     {
-        self.serve(passed(), out, work)
+        self.serve(Event::Second, out, work)
     }
 }

@@ -9,7 +9,6 @@ ghost use Rattle.machine.specs.Machine.Event.{packet};
 ghost use Rattle.machine.specs.Ready.{Ready};
 ghost use Rattle.packet.specs.Data.{known_among};
 ghost use Rattle.packet.specs.Requests.{has_data, request_parts};
-ghost use Rattle.phases.specs.declared.scan.Event.TheVariants.{Second};
 
 use codes::{Code, Coded, Command, Refusal};
 use device::{Answers, Device, Told};
@@ -18,27 +17,11 @@ use memory::Memory;
 use packet::{Request, read_request};
 use phases::{Event, Scan, decide};
 
-/// What a call is given.
-#[derive(Clone, Copy)]
-pub(crate) enum Input<'a> {
-    /// The bytes of a frame.
-    Frame(&'a [u8]),
-    Finger(Scan<'a>),
-    Second,
-}
-
 /// Whether a command is UM.
 fn is_unlock(command: Coded<Command>) -> bool
     ensures { result ≡ known_among command_number (Unlock ∷ []) command }
 {
     matches!(command, Coded::Known(Command::Unlock))
-}
-
-/// The event that a second has passed.
-fn second() -> Event<'static>
-    ensures { result ≡ Second }
-{
-    Event::Second
 }
 
 /// A request: a locked module hears nothing but UM.
@@ -76,16 +59,17 @@ fn hear_frame<M: Matcher, S: Memory>(
 /// What a call is given.
 pub(crate) fn hear<M: Matcher, S: Memory>(
     device: &mut Device<M, S>,
-    input: Input<'_>,
+    event: Event<&[u8], Scan<'_>>,
     work: &mut [u8],
 ) -> Result<Answers, Refusal>
     requires { 384 ≤ length work.old }
     ensures { Ready (view M.Matcher S.Memory device.old)
-        → Heard (view M.Matcher S.Memory device.old) (event_of input.entry) result (view M.Matcher S.Memory device.new) }
+        → Heard (view M.Matcher S.Memory device.old) (event_of event.entry) result
+        (view M.Matcher S.Memory device.new) }
 {
-    match input {
-        Input::Frame(frame) => hear_frame(device, frame, work),
-        Input::Finger(scan) => decide(device, Event::Finger(scan), work),
-        Input::Second => decide(device, second(), work),
+    match event {
+        Event::Packet(frame) => hear_frame(device, frame, work),
+        Event::Finger(scan) => decide(device, Event::Finger(scan), work),
+        Event::Second => decide(device, Event::Second, work),
     }
 }

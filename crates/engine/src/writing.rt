@@ -1,5 +1,5 @@
 ghost use Rattle.std.specs.Prelude.{◌≡◌, ◌+◌, ◌*◌, ◌≤◌, [], ◌∷◌, ◌++◌, length, take, drop};
-ghost use Rattle.device.specs.View.{data_in, said_in};
+ghost use Rattle.device.specs.View.{data_in, plain, said_in};
 ghost use Rattle.device.specs.declared.answers.Data.TheVariants.{Ids, Template};
 ghost use Rattle.engine.specs.Wrote.{Wrote, said};
 ghost use Rattle.packet.specs.Numbers.{bytes32};
@@ -69,45 +69,34 @@ fn write_data<S: Memory>(memory: &S, data: Data, out: &mut [u8]) -> usize
 }
 
 /// Writes a reply around data of the memory, which goes straight to its place in the buffer.
-fn write_around<S: Memory>(
-    memory: &S,
-    own: u16,
-    out: &mut [u8],
-    reply: Reply<'_>,
-    data: Data,
-) -> usize
+fn write_around<S: Memory>(memory: &S, own: u16, out: &mut [u8], told: Told, data: Data) -> usize
     requires { 2048 ≤ length out.old }
-    ensures { Wrote own (said reply.entry.to reply.entry.outcome (data_in (S.Memory.held memory.now) «data») ∷ [])
+    ensures { Wrote own (said told.to told.outcome (data_in (S.Memory.held memory.now) «data») ∷ [])
         out.old out.new result }
 {
-    match data_place(reply.to, reply.outcome) {
+    match data_place(told.to, told.outcome) {
         Some(at) => {
             let length = write_data(memory, data, &mut out[at..]);
-            write_reply_around(out, own, reply.to, reply.outcome, length).unwrap_or(0)
+            write_reply_around(out, own, told.to, told.outcome, length).unwrap_or(0)
         }
-        None => write_reply_around(out, own, reply.to, reply.outcome, 0).unwrap_or(0),
+        None => write_reply_around(out, own, told.to, told.outcome, 0).unwrap_or(0),
     }
 }
 
-/// Writes one reply.
-fn write_one(own: u16, out: &mut [u8], reply: Reply<'_>) -> usize
-    requires in_bounds { 2048 ≤ length out.old }
-    requires data_value { reply.«data».now ≡ [] }
-    ensures { Wrote own (said reply.entry.to reply.entry.outcome [] ∷ []) out.old out.new result }
+/// Writes one reply without data.
+fn write_one(own: u16, out: &mut [u8], told: Told) -> usize
+    requires { 2048 ≤ length out.old }
+    ensures { Wrote own (plain told ∷ []) out.old out.new result }
 {
-    write_reply(out, own, reply).unwrap_or(0)
+    write_reply(out, own, reply(told)).unwrap_or(0)
 }
 
-/// Writes two replies, the second right behind the first.
-fn write_two(own: u16, out: &mut [u8], first: Reply<'_>, second: Reply<'_>) -> usize
-    requires in_bounds { 2048 ≤ length out.old }
-    requires data_value { first.«data».now ≡ [] }
-    requires data_value_2 { second.«data».now ≡ [] }
-    ensures { Wrote own
-        (said first.entry.to first.entry.outcome [] ∷ said second.entry.to second.entry.outcome [] ∷ [])
-        out.old out.new result }
+/// Writes two replies without data, the second right behind the first.
+fn write_two(own: u16, out: &mut [u8], first: Told, second: Told) -> usize
+    requires { 2048 ≤ length out.old }
+    ensures { Wrote own (plain first ∷ plain second ∷ []) out.old out.new result }
 {
-    write_replies(out, own, first, second).unwrap_or(0)
+    write_replies(out, own, reply(first), reply(second)).unwrap_or(0)
 }
 
 /// Writes what a call answers at the front of `out`, and says how many bytes that are.
@@ -123,8 +112,8 @@ pub(crate) fn write_answers<S: Memory>(
 {
     match answers {
         Answers::Nothing => 0,
-        Answers::One(told) => write_one(own, out, reply(told)),
-        Answers::WithData(told, data) => write_around(memory, own, out, reply(told), data),
-        Answers::Two(first, second) => write_two(own, out, reply(first), reply(second)),
+        Answers::One(told) => write_one(own, out, told),
+        Answers::WithData(told, data) => write_around(memory, own, out, told, data),
+        Answers::Two(first, second) => write_two(own, out, first, second),
     }
 }

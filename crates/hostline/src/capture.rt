@@ -7,6 +7,16 @@ use packet::{Request, read_request, write_request};
 use std::alloc::{AllocError, Global};
 use std::io::Write;
 
+/// The refusals of a frame, in their order.
+const FRAME_REFUSALS: [Refusal; 6] = [
+    Refusal::TooShort,
+    Refusal::StartCode,
+    Refusal::EndCode,
+    Refusal::Checksum,
+    Refusal::Terminal,
+    Refusal::DataLength,
+];
+
 /// What was seen of a capture so far.
 #[derive(Drop)]
 pub(crate) struct Capture {
@@ -15,17 +25,14 @@ pub(crate) struct Capture {
     pub ill_formed: u64,
     pub accepted: u64,
     pub identical: u64,
-    /// By the refusal's number.
-    refused: [u64; 9],
+    /// How many frames each refusal of a frame met, in their order.
+    pub refused: [(Refusal, u64); 6],
 }
 
 /// Whether a request writes back to its frame.
 fn writes_back(heap: Global, request: Request<'_>, frame: &[u8]) -> Result<bool, AllocError> {
     let mut bytes = vec![in heap; 0u8; frame.len()]?;
-    match write_request(&mut bytes, request) {
-        Some(count) => Ok(count == frame.len() && bytes.as_slice() == frame),
-        None => Ok(false),
-    }
+    Ok(write_request(&mut bytes, request) == Some(frame.len()) && bytes.as_slice() == frame)
 }
 
 impl Capture {
@@ -36,7 +43,7 @@ impl Capture {
             ill_formed: 0,
             accepted: 0,
             identical: 0,
-            refused: [0; 9],
+            refused: FRAME_REFUSALS.map(|refusal| (refusal, 0)),
         }
     }
 
@@ -58,7 +65,7 @@ impl Capture {
         }
         match read_hex(heap, digits) {
             Ok(frame) => self.frame(heap, frame.as_slice(), out),
-            Err(Fault::Memory) => Err(anyhow!("out of memory")),
+            Err(Fault::Memory(_)) => Err(anyhow!("out of memory")),
             Err(fault) => {
                 self.ill_formed = self.ill_formed.saturating_add(1);
                 Ok(out.ill_formed(self.lines, fault)?)
@@ -82,24 +89,20 @@ impl Capture {
                 Ok(out.request(self.lines, request, identical)?)
             }
             Err(refusal) => {
-                let at = refusal.number() as usize;
-                self.refused[at] = self.refused[at].saturating_add(1);
+                for (counted, count) in &mut self.refused {
+                    if *counted == refusal {
+                        *count = count.saturating_add(1);
+                    }
+                }
                 Ok(out.refusal(self.lines, refusal)?)
             }
         }
     }
 
-    /// How many frames were refused for this.
-    pub fn refused_as(&self, refusal: Refusal) -> u64 {
-        self.refused[refusal.number() as usize]
-    }
-
     /// How many frames were refused.
     pub fn refused_in_all(&self) -> u64 {
-        let mut all = 0u64;
-        for count in self.refused {
-            all = all.saturating_add(count);
-        }
-        all
+        self.refused
+            .iter()
+            .fold(0, |all: u64, (_, count)| all.saturating_add(*count))
     }
 }

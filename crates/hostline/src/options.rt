@@ -1,4 +1,4 @@
-use anyhow::anyhow;
+use anyhow::{Context, anyhow};
 use codes::NetworkMode;
 use std::env;
 
@@ -18,20 +18,15 @@ pub(crate) fn read_options(rt: &HostRuntime) -> anyhow::Result<Hearing> {
             own: 0,
         });
     };
-    if option.as_str() != "--network" {
+    let number = args.next();
+    if option.as_str() != "--network" || args.next().is_some() {
         return Err(anyhow!("usage: hostline [--network N]"));
     }
-    let Some(number) = args.next() else {
-        return Err(anyhow!("--network wants the module's number, from 0 to 65535"));
-    };
-    if args.next().is_some() {
-        return Err(anyhow!("usage: hostline [--network N]"));
-    }
-    match number.as_str().parse::<u16>() {
-        Ok(own) => Ok(Hearing {
-            mode: NetworkMode::Network,
-            own,
-        }),
-        Err(_) => Err(anyhow!("--network wants the module's number, from 0 to 65535")),
-    }
+    let own = number
+        .and_then(|number| number.as_str().parse().ok())
+        .context("--network wants the module's number, from 0 to 65535")?;
+    Ok(Hearing {
+        mode: NetworkMode::Network,
+        own,
+    })
 }

@@ -1,19 +1,9 @@
 use crate::capture::Capture;
-use codes::{Coded, Command, EnrollFlag, Numbered, Parameter, Refusal};
+use codes::{Coded, Command, EnrollFlag, Parameter, Refusal};
 use digits::Fault;
-use packet::{Form, Request};
+use packet::Request;
+use std::io;
 use std::io::Write;
-use std::{fmt, io};
-
-/// The refusals of a frame, in their order.
-const FRAME_REFUSALS: [Refusal; 6] = [
-    Refusal::TooShort,
-    Refusal::StartCode,
-    Refusal::EndCode,
-    Refusal::Checksum,
-    Refusal::Terminal,
-    Refusal::DataLength,
-];
 
 /// What is printed.
 #[derive(Drop)]
@@ -23,50 +13,18 @@ pub(crate) struct Report<W: Write> {
 
 /// What the flag of a request means to its command.
 fn flag_name(request: Request<'_>) -> &'static str {
-    match request.command {
-        Coded::Known(Command::WriteParameter | Command::ReadParameter) => match Coded::<
-            Parameter,
-        >::of(request.flag)
-        {
-            Coded::Known(parameter) => parameter.name(),
-            Coded::Unknown(_) => "unknown parameter",
-        },
-        Coded::Known(Command::Enroll | Command::EnrollByAdministrator | Command::EnrollTemplate) =>
-            {
-                match Coded::<EnrollFlag>::of(request.flag) {
-                    Coded::Known(flag) => flag.name(),
-                    Coded::Unknown(_) => "unknown flag",
-                }
-            }
-        Coded::Known(Command::WriteLevel) => "level",
+    let Coded::Known(command) = request.command else {
+        return "ignored";
+    };
+    match command {
+        Command::WriteParameter | Command::ReadParameter => {
+            Parameter::try_from(request.flag).map_or("unknown parameter", Parameter::name)
+        }
+        Command::Enroll | Command::EnrollByAdministrator | Command::EnrollTemplate => {
+            EnrollFlag::try_from(request.flag).map_or("unknown flag", EnrollFlag::name)
+        }
+        Command::WriteLevel => "level",
         _ => "ignored",
-    }
-}
-
-/// The form of a packet, in words.
-#[derive(Clone, Copy)]
-struct FormWords(Form);
-
-impl fmt::Display for FormWords {
-    fn fmt<W: fmt::Write>(&self, f: &mut fmt::Formatter<W>) -> fmt::Result {
-        match self.0 {
-            Form::Standard => write!(f, "standard"),
-            Form::Network(0) => write!(f, "network, broadcast"),
-            Form::Network(terminal) => write!(f, "network, terminal {terminal}"),
-        }
-    }
-}
-
-/// A command by name, or its byte.
-#[derive(Clone, Copy)]
-struct CommandWords(Coded<Command>);
-
-impl fmt::Display for CommandWords {
-    fn fmt<W: fmt::Write>(&self, f: &mut fmt::Formatter<W>) -> fmt::Result {
-        match self.0 {
-            Coded::Known(command) => write!(f, "{}", command.name()),
-            Coded::Unknown(byte) => write!(f, "unknown 0x{byte:02X}"),
-        }
     }
 }
 
@@ -89,19 +47,21 @@ impl<W: Write> Report<W> {
                 )
             }
             Fault::Odd => writeln!(self.out, "{line:>6}  ill-formed: an odd number of digits"),
-            Fault::Memory => writeln!(self.out, "{line:>6}  ill-formed: too long for the memory"),
+            Fault::Memory(_) => writeln!(
+                self.out,
+                "{line:>6}  ill-formed: too long for the memory"
+            ),
         }
     }
 
     pub fn refusal(&mut self, line: u64, refusal: Refusal) -> io::Result<()> {
-        let number = refusal.number();
-        let name = refusal.name();
-        writeln!(self.out, "{line:>6}  refused {number}: {name}")
+        let number = u8::from(refusal);
+        writeln!(self.out, "{line:>6}  refused {number}: {refusal}")
     }
 
     pub fn request(&mut self, line: u64, request: Request<'_>, identical: bool) -> io::Result<()> {
-        let command = CommandWords(request.command);
-        let form = FormWords(request.form);
+        let command = request.command;
+        let form = request.form;
         let param = request.param;
         let size = request.size;
         let flag = request.flag;
@@ -135,11 +95,9 @@ impl<W: Write> Report<W> {
             self.out,
             "{frames} frames: {accepted} accepted, {refused} refused"
         )?;
-        for refusal in FRAME_REFUSALS {
-            let count = capture.refused_as(refusal);
-            let number = refusal.number();
-            let name = refusal.name();
-            writeln!(self.out, "  refused {number} ({name}): {count}")?;
+        for (refusal, count) in capture.refused {
+            let number = u8::from(refusal);
+            writeln!(self.out, "  refused {number} ({refusal}): {count}")?;
         }
         writeln!(self.out, "{accepted} written back: {identical} identical")?;
         self.out.flush()

@@ -5,6 +5,7 @@ pub mod Administrators
 pub mod Answers
 pub mod Ids
 pub mod Enrollment
+pub mod AdminLevels
 pub mod Requests
 pub mod Waiting
 pub mod Machine

@@ -1,5 +1,5 @@
 -- An enrolment that waits can be carried out: it was tested when the request came, and nothing changes while it waits.
-use Rattle.std.specs.Prelude.{ℕ, ◌-◌, ◌<◌, ◌≤◌, length, Some, None, Option}
+use Rattle.std.specs.Prelude.{◌-◌, ◌<◌, ◌≤◌, length, Some, None, Option}
 use Rattle.machine.specs.Settings.{templates_in}
 use Rattle.machine.specs.State.{Phase, State, Waiting}
 use Rattle.machine.specs.State.Phase.{

@@ -55,6 +55,8 @@ use Rattle.packet.specs.Requests.{RequestParts}
 use Rattle.search.specs.Ids.{count_of, place_of}
 use Rattle.std.specs.List.{flat_map}
 use Rattle.std.specs.Str.{bytes_eq}
+use Rattle.std.specs.Option.{option_map}
+use Rattle.machine.specs.AdminLevels.{admin_level_number, admin_levels}
 use Rattle.machine.specs.Administrators.{any_admin, changed, level_of, may_delete, may_enroll, struck}
 use Rattle.machine.specs.Answers.{Step, answer, answer_data, go, just}
 use Rattle.machine.specs.Enrollment.{enroll_fault, enroll_id, enrolled, looks_up}
@@ -64,11 +66,6 @@ use Rattle.machine.specs.Settings.{enroll_mode_number, network_number, set, sett
 use Rattle.machine.specs.State.{Phase, State, awaiting, configured, guarded, holding, locking}
 use Rattle.machine.specs.State.Phase.{grant_to_enroll, grant_to_delete, first_finger, person_to_verify, person_to_identify}
 use Rattle.machine.specs.declared.level.Level.{Level}
-use Rattle.machine.specs.declared.level.Level.TheVariants.{
-  Enroll as EnrollLevel,
-  Delete as DeleteLevel,
-  All as AllLevel,
-}
 use Rattle.machine.specs.declared.enrollment.Enroller.{Enroller}
 use Rattle.machine.specs.declared.enrollment.Enroller.TheVariants.{Host, Administrator}
 use Rattle.machine.specs.declared.enrollment.Enrollment.{Enrollment}
@@ -186,11 +183,7 @@ pub data Wanted : Type 0 where
   wanted : Level → Wanted
 
 abbrev pub level_in : ℕ → Option Wanted
-level_in n =
-    cond (n == 0) (Some no_level)
-    (cond (n == 1) (Some (wanted EnrollLevel))
-    (cond (n == 2) (Some (wanted DeleteLevel))
-    (cond (n == 3) (Some (wanted AllLevel)) None)))
+level_in n = cond (n == 0) (Some no_level) (option_map wanted (case_of admin_level_number admin_levels n))
 
 -- AW, once the ID is known to have templates: level 0 strikes the row, another is written into it, or into a new one of at most 16
 abbrev pub levelled : State → RequestParts → Wanted → Step

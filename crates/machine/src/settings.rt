@@ -1,7 +1,7 @@
 ghost use Rattle.std.specs.Prelude.{◌≡◌};
 ghost use Rattle.machine.specs.Settings.{fresh_settings, set, setting_of};
 
-use codes::{NetworkMode, Numbered, Parameter};
+use codes::{NetworkMode, Parameter};
 use matcher::SecurityLevel;
 
 /// The values of the parameter Enroll Mode: how many fingers and templates an enrolment takes.
@@ -44,16 +44,6 @@ pub enum Setting {
     Network(NetworkMode),
 }
 
-/// The Security Level of a code.
-fn security_of(code: u8) -> Option<Setting>
-    ensures { result ≡ setting_of Parameter.SecurityLevel code }
-{
-    match SecurityLevel::numbered(code) {
-        Some(level) => Some(Setting::Security(level)),
-        None => None,
-    }
-}
-
 impl Setting {
     /// The parameter with the value, if it takes that value.
     pub fn of(parameter: Parameter, value: u32) -> Option<Setting>
@@ -64,7 +54,11 @@ impl Setting {
             (Parameter::EnrollMode, 0x30) => Some(Setting::Enroll(EnrollMode::Once)),
             (Parameter::EnrollMode, 0x31) => Some(Setting::Enroll(EnrollMode::Twice)),
             (Parameter::EnrollMode, 0x41) => Some(Setting::Enroll(EnrollMode::TwoTemplates)),
-            (Parameter::SecurityLevel, code) if code <= 0xFF => security_of(code as u8),
+            (Parameter::SecurityLevel, code) if code <= 0xFF => {
+                SecurityLevel::try_from(code as u8)
+                    .ok()
+                    .map(Setting::Security)
+            }
             (Parameter::SendScanSuccess, 0x30) => Some(Setting::Scans(Switch::Off)),
             (Parameter::SendScanSuccess, 0x31) => Some(Setting::Scans(Switch::On)),
             (Parameter::NetworkMode, 0x30) => Some(Setting::Network(NetworkMode::Single)),

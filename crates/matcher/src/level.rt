@@ -1,9 +1,10 @@
 ghost use Rattle.std.specs.Prelude.{◌≡◌, ◌≤◌, Some};
 ghost use Rattle.matcher.specs.Levels.{StricterIsRarer, level_number, levels, strictness_at, strictness_of};
-ghost use Rattle.std.proofs.Common.{rules};
+ghost use Rattle.codes.specs.Numbers.{numbered};
+ghost use Rattle.matcher.specs.Known.{level-apart};
 
 use crate::strictness::Strictness;
-use codes::Numbered;
+use codes::{NoCase, Numbered};
 
 /// The values of the parameter Security Level, each by its false acceptance rate.
 #[derive(Clone, Copy, PartialEq, Eq, Debug)]
@@ -40,37 +41,51 @@ pub enum SecurityLevel {
     ThreeIn100M = 0x46,
 }
 
+impl From<SecurityLevel> for u8 {
+    ghost from_gives = { λ level number. number ≡ level_number level };
+
+    fn from(level: SecurityLevel) -> u8 {
+        level as u8
+    }
+}
+
+impl TryFrom<u8> for SecurityLevel {
+    type Error = NoCase;
+
+    ghost try_from_gives = { λ number level. level ≡ numbered level_number levels number };
+
+    fn try_from(byte: u8) -> Result<SecurityLevel, NoCase> {
+        match byte {
+            0x30 => Ok(SecurityLevel::OneIn10),
+            0x31 => Ok(SecurityLevel::OneIn100),
+            0x32 => Ok(SecurityLevel::OneIn1k),
+            0x33 => Ok(SecurityLevel::OneIn10k),
+            0x34 => Ok(SecurityLevel::OneIn100k),
+            0x35 => Ok(SecurityLevel::OneIn1M),
+            0x36 => Ok(SecurityLevel::OneIn10M),
+            0x37 => Ok(SecurityLevel::OneIn100M),
+            0x40 => Ok(SecurityLevel::ThreeIn100),
+            0x41 => Ok(SecurityLevel::ThreeIn1k),
+            0x42 => Ok(SecurityLevel::ThreeIn10k),
+            0x43 => Ok(SecurityLevel::ThreeIn100k),
+            0x44 => Ok(SecurityLevel::ThreeIn1M),
+            0x45 => Ok(SecurityLevel::ThreeIn10M),
+            0x46 => Ok(SecurityLevel::ThreeIn100M),
+            _ => Err(NoCase(byte)),
+        }
+    }
+}
+
 impl Numbered for SecurityLevel {
     ghost number_of = { level_number };
 
     ghost cases = { levels };
 
-    ghost apart = { Prim.search rules };
+    ghost gives = { λ c n is. is };
 
-    fn number(self) -> u8 {
-        self as u8
-    }
+    ghost found = { λ n r is. is };
 
-    fn numbered(byte: u8) -> Option<SecurityLevel> {
-        match byte {
-            0x30 => Some(SecurityLevel::OneIn10),
-            0x31 => Some(SecurityLevel::OneIn100),
-            0x32 => Some(SecurityLevel::OneIn1k),
-            0x33 => Some(SecurityLevel::OneIn10k),
-            0x34 => Some(SecurityLevel::OneIn100k),
-            0x35 => Some(SecurityLevel::OneIn1M),
-            0x36 => Some(SecurityLevel::OneIn10M),
-            0x37 => Some(SecurityLevel::OneIn100M),
-            0x40 => Some(SecurityLevel::ThreeIn100),
-            0x41 => Some(SecurityLevel::ThreeIn1k),
-            0x42 => Some(SecurityLevel::ThreeIn10k),
-            0x43 => Some(SecurityLevel::ThreeIn100k),
-            0x44 => Some(SecurityLevel::ThreeIn1M),
-            0x45 => Some(SecurityLevel::ThreeIn10M),
-            0x46 => Some(SecurityLevel::ThreeIn100M),
-            _ => None,
-        }
-    }
+    ghost apart = { level-apart };
 }
 
 impl SecurityLevel {
@@ -81,20 +96,20 @@ impl SecurityLevel {
     {
         match self {
             SecurityLevel::OneIn10 => 0,
-            SecurityLevel::OneIn100 => 2,
-            SecurityLevel::OneIn1k => 4,
-            SecurityLevel::OneIn10k => 6,
-            SecurityLevel::OneIn100k => 8,
-            SecurityLevel::OneIn1M => 10,
-            SecurityLevel::OneIn10M => 12,
-            SecurityLevel::OneIn100M => 14,
             SecurityLevel::ThreeIn100 => 1,
+            SecurityLevel::OneIn100 => 2,
             SecurityLevel::ThreeIn1k => 3,
+            SecurityLevel::OneIn1k => 4,
             SecurityLevel::ThreeIn10k => 5,
+            SecurityLevel::OneIn10k => 6,
             SecurityLevel::ThreeIn100k => 7,
+            SecurityLevel::OneIn100k => 8,
             SecurityLevel::ThreeIn1M => 9,
+            SecurityLevel::OneIn1M => 10,
             SecurityLevel::ThreeIn10M => 11,
+            SecurityLevel::OneIn10M => 12,
             SecurityLevel::ThreeIn100M => 13,
+            SecurityLevel::OneIn100M => 14,
         }
     }
 
@@ -102,7 +117,7 @@ impl SecurityLevel {
     pub fn strictness(self) -> Strictness
         ensures { result.value ≡ strictness_of self }
     {
-        Strictness::at(self.rank())
+        Strictness { value: self.rank() }
     }
 }
 

@@ -1,17 +1,10 @@
 -- What a memory answers, case by case.
-use Rattle.std.proofs.Common.{◌≡◌, ℕ, ◌<◌, ◌≤◌, true, false, ltb, List, [], ◌∷◌, ◌++◌, length, drop, Some, None, Ok, Err, arith}
+use Rattle.std.proofs.Common.{◌≡◌, ℕ, ◌<◌, ◌≤◌, true, false, ltb, List, [], ◌∷◌, ◌++◌, length, drop, Some, None, Ok, arith}
 use Rattle.std.specs.List.{remove}
 use Rattle.std.proofs.lemmas.Bool.Decides.{nat_tests}
-use Rattle.memory.specs.declared.NotAdded.TheVariants.{Full}
-use Rattle.memory.specs.Held.{Held, held_at, id_at, copy_answer, copy_after, add_answer, add_after, remove_after}
+use Rattle.memory.specs.Held.{Held, held_at, copy_answer, copy_after, add_answer, add_after, remove_after}
 
 module _ (h : List Held) (place : ℕ) where
-  pub id_there : place < length h → Some (held_at h place).id ≡ id_at h place
-  id_there l = grind (arith, nat_tests)
-
-  pub id-past : length h ≤ place → None ≡ id_at h place
-  id-past l = grind (arith, nat_tests)
-
   pub remove-there : place < length h → (true ≡ ltb place (length h)) × (remove h place ≡ remove_after h place)
   remove-there l = (grind (arith, nat_tests), grind (arith, nat_tests))
 
@@ -23,9 +16,6 @@ module _ (h : List Held) (place : ℕ) where
         → (Some size ≡ copy_answer size h place into) × ((held_at h place).template ++ drop size into ≡ copy_after size h place into)
     copy-there l m = (grind (arith, nat_tests), grind (arith, nat_tests))
 
-    pub copy-short : length into < size → (None ≡ copy_answer size h place into) × (into ≡ copy_after size h place into)
-    copy-short l = (grind (arith, nat_tests), grind (arith, nat_tests))
-
     pub copy-past : length h ≤ place → (None ≡ copy_answer size h place into) × (into ≡ copy_after size h place into)
     copy-past l = (grind (arith, nat_tests), grind (arith, nat_tests))
 
@@ -33,6 +23,3 @@ module _ (size room : ℕ) (h : List Held) (id : ℕ) (template : List ℕ) (som
   pub add-there : length h < room
       → (Ok tt ≡ add_answer size room h id template) × (h ++ (record { id = id; template = template }) ∷ [] ≡ add_after size room h id template)
   add-there l = (grind (arith, nat_tests), grind (arith, nat_tests))
-
-  pub add-full : room ≤ length h → (Err Full ≡ add_answer size room h id template) × (h ≡ add_after size room h id template)
-  add-full l = (grind (arith, nat_tests), grind (arith, nat_tests))

@@ -19,18 +19,14 @@ pub trait Memory {
     /// The bytes of a template, from 256 to 384.
     const T: usize;
 
-    /// `T`, for clauses, which cannot name a constant of a trait: `template_size` ties the two.
-    ghost size: { ℕ };
+    /// `T`, for clauses and laws.
+    ghost T: { ℕ };
 
     /// The templates that are held, oldest first.
     ghost held: { Self → List Held };
 
     /// The capacity: how many templates can be held.
     ghost room: { Self → ℕ };
-
-    /// `Self::T`.
-    fn template_size() -> usize
-        ensures { result ≡ size };
 
     /// How many templates can be held.
     fn capacity(&self) -> usize
@@ -47,14 +43,14 @@ pub trait Memory {
     /// Copies the template at a place to the front of `into`, and says how long it is;
     /// none at or past the count, or where `into` is too short.
     fn copy_at(&self, place: usize, into: &mut [u8]) -> Option<usize>
-        ensures value { result ≡ copy_answer size (held self.now) place into.old }
-        ensures after { into.new ≡ copy_after size (held self.now) place into.old };
+        ensures value { result ≡ copy_answer T (held self.now) place into.old }
+        ensures after { into.new ≡ copy_after T (held self.now) place into.old };
 
     /// Adds a template as the youngest.
     fn add(&mut self, id: u16, template: &[u8]) -> Result<(), NotAdded>
-        ensures value { result ≡ add_answer size
+        ensures value { result ≡ add_answer T
             (room self.old) (held self.old) id template.now }
-        ensures after { held self.new ≡ add_after size
+        ensures after { held self.new ≡ add_after T
             (room self.old) (held self.old) id template.now }
         ensures room_same { room self.new ≡ room self.old };
 
@@ -69,9 +65,9 @@ pub trait Memory {
         ensures after { held self.new ≡ [] }
         ensures room_same { room self.new ≡ room self.old };
 
-    ghost sized: { (256 ≤ size) × (size ≤ 384) };
+    ghost sized: { (256 ≤ T) × (T ≤ 384) };
 
     ghost within: { (s : Self) → (length (held s) ≤ room s) × (room s ≤ 500) };
 
-    ghost sound: { (s : Self) → AllByRecursion (Sound size) (held s) };
+    ghost sound: { (s : Self) → AllByRecursion (Sound T) (held s) };
 }

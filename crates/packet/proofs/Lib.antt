@@ -1,5 +1,5 @@
+mod Sums
 pub mod Heads
-pub mod Data
 pub mod Writes
 pub mod Standing
 pub mod Trips

@@ -21,7 +21,7 @@ use Rattle.packet.specs.Numbers.{checksum_of}
 use Rattle.packet.specs.Heads.{head_bytes, read_head, summed_bytes}
 use Rattle.packet.specs.Data.{asks_with_data, answers_with_data, data_bytes, split_data}
 use Rattle.packet.specs.Requests.{RequestParts, nothing_behind, read_request, request_of, request_head, request_bytes, with_data}
-use Rattle.codes.proofs.Known.{known-code}
+use Rattle.codes.specs.Known.{known-code}
 use Rattle.packet.specs.Responses.{ResponseParts, answered, bytes_in, carries, either_head, outcome_bytes, outcome_head, read_response, reply_bytes, reply_form, response_of}
 use Rattle.packet.specs.Trips.{AsRead, Belongs, HeardIn, FormFits, Heard, Proper, ReadAs, sent, sent_in}
 
@@ -137,19 +137,12 @@ reply-read own y behind ps f h r =
     read-in (reply_form own y.to) y.outcome y.«data».now behind ps (reply-form-fits own y.to f.own-fits) h.as_read f.param_fits
     f.size_fits h.data_belongs r
 
-read_same : (xs ys : List ℕ) (ps qs : List ResponseParts) → xs ≡ ys → ps ≡ qs → ReadAs ys qs → ReadAs xs ps
-read_same xs ys ps qs e f r =
-    let P : List ℕ → Type 0 = λ l. ReadAs l ps in
-    let Q : List ResponseParts → Type 0 = λ l. ReadAs ys l in
-    subst P (sym e) (subst Q (sym f) r)
+pub one-read : (own : ℕ) (y : Reply) → Fitting own y → Proper y → ReadAs (reply_bytes own y) (sent own y)
+one-read own y f h =
+    let P : List ℕ → Type 0 = λ l. ReadAs l (sent own y) in
+    let Q : List ResponseParts → Type 0 = λ l. ReadAs (reply_bytes own y ++ []) l in
+    subst P (append-nil (reply_bytes own y)) (subst Q (append-nil (sent own y)) (reply-read own y [] [] f h refl))
 
-pub one-read : (own : ℕ) (y : Reply) (xs : List ℕ) → Fitting own y → xs ≡ reply_bytes own y → Proper y → ReadAs xs (sent own y)
-one-read own y xs f e h =
-    read_same xs (reply_bytes own y ++ []) (sent own y) (sent own y ++ []) (e ∙ sym (append-nil (reply_bytes own y))) (sym (append-nil (sent own y)))
-    (reply-read own y [] [] f h refl)
-
-pub two-read : (own : ℕ) (y z : Reply) (xs : List ℕ) → Fitting own y → Fitting own z → xs ≡ reply_bytes own y ++ reply_bytes own z
-    → Proper y → Proper z → ReadAs xs (sent own y ++ sent own z)
-two-read own y z xs f g e h k =
-    read_same xs (reply_bytes own y ++ reply_bytes own z) _ (sent own y ++ sent own z) e refl
-    (reply-read own y (reply_bytes own z) (sent own z) f h (one-read own z (reply_bytes own z) g refl k))
+pub two-read : (own : ℕ) (y z : Reply) → Fitting own y → Fitting own z → Proper y → Proper z
+    → ReadAs (reply_bytes own y ++ reply_bytes own z) (sent own y ++ sent own z)
+two-read own y z f g h k = reply-read own y (reply_bytes own z) (sent own z) f h (one-read own z g k)

@@ -1,23 +1,16 @@
 -- What is written, and the bytes behind it, which stay.
-use Rattle.std.proofs.Common.{◌≡◌, ℕ, ◌+◌, ◌-◌, ◌<◌, ◌≤◌, Bool, true, false, List, [], ◌∷◌, ◌++◌, length, get_or, take, drop, set, Some, None, Option, sym, refl, ap, ◌∙◌, arith}
+use Rattle.std.proofs.Common.{◌≡◌, ℕ, ◌+◌, ◌-◌, ◌<◌, ◌≤◌, Bool, true, false, cond, List, [], ◌∷◌, ◌++◌, length, get_or, take, drop, set, IfSome, nat_le, Some, None, Option, sym, refl, ap, ◌∙◌, subst, arith}
 use borrow.Rule.Slice.PartMut.{put_mid}
+use native.Mathlib.Nat.{sub-zero}
 use Rattle.std.proofs.lemmas.List.{take_at, drop_at, take_rest, drop-drop, drop_all, append-nil, append_assoc, length-append, length-drop, length_push, drop_more, set_at}
-use Rattle.std.proofs.lemmas.Bool.{le-leb, lt-leb}
 use Rattle.codes.specs.declared.command.Command.{Command}
 use Rattle.codes.specs.declared.numbered.Coded.{Coded}
 use Rattle.packet.specs.declared.form.Form.{Form}
 use Rattle.packet.specs.declared.form.Form.TheVariants.{Standard, Network}
 use Rattle.packet.specs.declared.form.Head.{Head}
-use Rattle.packet.specs.Heads.{head_bytes, head_length, in_form}
+use Rattle.packet.specs.Numbers.{checksum_of}
+use Rattle.packet.specs.Heads.{closed, field_bytes, head_bytes, head_length, start_bytes}
 use Rattle.packet.specs.Packets.{packet_bytes, written, written_count}
-
--- a packet in the form f, which is its own
-pub in-form : (f : Form) (h : Head) (w out : List ℕ) → h.form ≡ f
-    → w ≡ head_bytes (in_form f h)
-    → w ++ drop (head_length f) out ≡ head_bytes h ++ drop (head_length h.form) out
-in-form f h w out same e =
-    ap (λ l. l ++ drop (head_length f) out) e
-    ∙ ap (λ g. head_bytes (in_form g h) ++ drop (head_length g) out) (sym same)
 
 -- how long a packet is
 length-in : (f : Form) (command : Coded Command) (param size flag : ℕ)
@@ -58,44 +51,56 @@ lent-on n k j out m p q w nk pk mp wq =
     let past : drop (length m - n) (drop n m) ≡ [] = drop_all (length m - n) (drop n m) (simp length-drop (omega arith)) in
     rw (front, past, append-nil, part, append_assoc)
 
--- a packet and its data, written one behind the other
-pub with-data : (h : Head) (carries : Bool) (bs out m w : List ℕ) (n : ℕ) → carries ≡ true → n ≡ head_length h.form
-    → m ≡ head_bytes h ++ drop (head_length h.form) out
-    → w ≡ (bs ++ 0x0A ∷ []) ++ drop (length bs + 1) (take (length m - n) (drop n m))
-    → put_mid n (length m - n) m w ≡ packet_bytes h carries bs ++ drop (length (packet_bytes h carries bs)) out
-with-data h carries bs out m w n e k mh wd =
-    lent-on n (head_length h.form) (length bs + 1) out m (head_bytes h) (bs ++ 0x0A ∷ []) w k (length-head h) mh wd
-    ∙ ap (λ j. head_bytes h ++ (bs ++ 0x0A ∷ []) ++ drop j out) (sym (length-packet h true bs refl))
-    ∙ ap (λ b. packet_bytes h b bs ++ drop (length (packet_bytes h b bs)) out) (sym e)
+-- a buffer with xs at its front and ys behind them
+abbrev parts : List ℕ → List ℕ → List ℕ → List ℕ → List ℕ → List ℕ
+parts xs ys out p q = put_mid (length xs) (length xs + length ys - length xs) (p ++ drop (length xs - 0) out) q
 
-pub without-data : (h : Head) (carries : Bool) (bs out m : List ℕ) → carries ≡ false
-    → m ≡ head_bytes h ++ drop (head_length h.form) out
-    → m ≡ packet_bytes h carries bs ++ drop (length (packet_bytes h carries bs)) out
-without-data h carries bs out m e mh =
-    mh ∙ ap (λ l. l ++ drop (head_length h.form) out) (sym (append-nil (head_bytes h)))
-    ∙ ap (λ j. packet_bytes h false bs ++ drop j out) (sym (length-bare h false bs refl))
-    ∙ ap (λ b. packet_bytes h b bs ++ drop (length (packet_bytes h b bs)) out) (sym e)
+parts-are : (xs ys out p q : List ℕ) → p ≡ xs → q ≡ ys → parts xs ys out p q ≡ (xs ++ ys) ++ drop (length xs + length ys) out
+parts-are xs ys out p q px qy =
+    let k = length xs in
+    let front : take k (p ++ drop k out) ≡ xs = ap (λ l. take k (l ++ drop k out)) px ∙ take_at xs (drop k out) k refl in
+    let back : drop k (p ++ drop k out) ≡ drop k out = ap (λ l. drop k (l ++ drop k out)) px ∙ drop_at xs (drop k out) k refl in
+    let size : k + length ys - k ≡ length ys = omega arith in
+    rw (sub-zero, front, back, size, drop-drop, qy, append_assoc)
 
--- bytes that have room, and bytes that have none
-pub room : (bs cs out w : List ℕ) (n : ℕ) → bs ≡ cs → length bs ≤ length out → n ≡ length bs → w ≡ bs ++ drop (length bs) out
-    → (Some n ≡ written_count cs out) × (w ≡ written cs out) × (take n w ≡ cs)
-room bs cs out w n same h e f =
-    let t = le-leb (length bs) (length out) h in
-    rw (← same) (rw (t, e), rw t f, ap (take n) f ∙ take_at bs (drop (length bs) out) n (sym e))
+pub summed-parts : (xs ys out p q : List ℕ) → p ≡ xs → q ≡ ys → take (length xs + length ys - 0) (parts xs ys out p q) ≡ xs ++ ys
+summed-parts xs ys out p q px qy =
+    rw (sub-zero (length xs + length ys))
+    (ap (take (length xs + length ys)) (parts-are xs ys out p q px qy) ∙ take_at (xs ++ ys) (drop (length xs + length ys) out) (length xs + length ys) (length-append xs ys))
 
-pub no_room : (bs out : List ℕ) → length out < length bs → (◌≡◌ {A = Option ℕ} None (written_count bs out)) × (out ≡ written bs out)
-no_room bs out h = let t = lt-leb (length bs) (length out) h in (rw t, rw t)
+-- two parts written one behind the other, then the checksum of both and the end code
+pub closing : (xs ys out p q : List ℕ) (s : ℕ) → p ≡ xs → q ≡ ys → length xs + length ys + 2 ≤ length out
+    → s ≡ checksum_of (xs ++ ys)
+    → set (set (parts xs ys out p q) (length xs + length ys) s) (length xs + length ys + 1) 0x0A ≡ closed (xs ++ ys) ++ drop (length xs + length ys + 2) out
+closing xs ys out p q s px qy h sum =
+    let n = length xs + length ys in
+    let len : length (xs ++ ys) ≡ n = length-append xs ys in
+    ap (λ l. set (set l n s) (n + 1) 0x0A) (parts-are xs ys out p q px qy)
+    ∙ ap (λ l. set l (n + 1) 0x0A) (ended out (xs ++ ys) (xs ++ ys) n n s len refl refl (omega arith))
+    ∙ ended out ((xs ++ ys) ++ s ∷ []) ((xs ++ ys) ++ s ∷ []) (n + 1) (n + 1) 0x0A (length_push (xs ++ ys) s ∙ ap (λ k. k + 1) len) refl refl (omega arith)
+    ∙ ap (λ l. l ++ drop (n + 1 + 1) out) (append_assoc (xs ++ ys) (s ∷ []) (0x0A ∷ []))
+    ∙ ap (λ b. ((xs ++ ys) ++ b ∷ 0x0A ∷ []) ++ drop (n + 1 + 1) out) sum
+    ∙ ap (λ k. closed (xs ++ ys) ++ drop k out) (omega arith)
 
--- two pieces, the second lent the rest of the buffer
-pub room_twice : (ps qs out m w : List ℕ) (n j : ℕ) → length ps + length qs ≤ length out
-    → n ≡ length ps → m ≡ ps ++ drop (length ps) out
-    → j ≡ length qs → w ≡ qs ++ drop (length qs) (take (length m - n) (drop n m))
-    → (Some (n + j) ≡ written_count (ps ++ qs) out) × (put_mid n (length m - n) m w ≡ written (ps ++ qs) out)
-    × (take (n + j) (put_mid n (length m - n) m w) ≡ ps ++ qs)
-room_twice ps qs out m w n j h np mp jq wq =
-    room (ps ++ qs) (ps ++ qs) out (put_mid n (length m - n) m w) (n + j) refl (rw length-append h) (rw length-append (omega arith))
-    (lent-on n (length ps) (length qs) out m ps qs w np refl mp wq ∙ ap (λ k. ps ++ qs ++ drop k out) (sym (length-append ps qs)))
+-- a packet without data, by its start and its fields
+pub headed : (h : Head) (f : Form) (ss fs out new : List ℕ) → h.form ≡ f → ss ≡ start_bytes f → fs ≡ field_bytes h.command h.param h.size h.flag
+    → new ≡ closed (ss ++ fs) ++ drop (length ss + length fs + 2) out → new ≡ head_bytes h ++ drop (head_length h.form) out
+headed h f ss fs out new is sf ff e =
+    e ∙ ap (λ l. closed (l ++ fs) ++ drop (length l + length fs + 2) out) (sf ∙ ap start_bytes (sym is))
+    ∙ ap (λ l. closed (start_bytes h.form ++ l) ++ drop (length (start_bytes h.form) + length l + 2) out) ff
+    ∙ ap (λ k. head_bytes h ++ drop k out) (length-of h.form)
+  where
+    length-of : (g : Form) → length (start_bytes g) + 10 + 2 ≡ head_length g
+    length-of Standard = refl
+    length-of (Network n) = refl
 
-pub no-room-twice : (ps qs out : List ℕ) → length out < length ps + length qs
-    → (◌≡◌ {A = Option ℕ} None (written_count (ps ++ qs) out)) × (out ≡ written (ps ++ qs) out)
-no-room-twice ps qs out h = no_room (ps ++ qs) out (rw length-append h)
+-- what holds of some bytes holds of those that were written, if any were
+pub written-as : (P : List ℕ → Type 0) (bs out new : List ℕ) (r : Option ℕ) → r ≡ written_count bs out → new ≡ written bs out → P bs
+    → IfSome r (λ n. P (take n new))
+written-as P bs out new r count bytes holds =
+    subst (λ (m : Option ℕ). IfSome m (λ n. P (take n new))) (sym count)
+    (subst (λ (l : List ℕ). IfSome (written_count bs out) (λ n. P (take n l))) (sym bytes) (by-room (nat_le (length bs) (length out))))
+  where
+    by-room : (b : Bool) → IfSome (cond b (Some (length bs)) None) (λ n. P (take n (cond b (bs ++ drop (length bs) out) out)))
+    by-room true = subst P (sym (take_at bs (drop (length bs) out) (length bs) refl)) holds
+    by-room false = tt

@@ -31,13 +31,13 @@ field_bytes command param size flag = byte_of command_number command ∷ (bytes3
 abbrev pub summed_bytes : Head → List ℕ
 summed_bytes h = start_bytes h.form ++ field_bytes h.command h.param h.size h.flag
 
--- the same fields in another form
-abbrev pub in_form : Form → Head → Head
-in_form form h = record { form = form; command = h.command; param = h.param; size = h.size; flag = h.flag }
+-- some bytes with their checksum and the end code
+abbrev pub closed : List ℕ → List ℕ
+closed bs = bs ++ checksum_of bs ∷ 0x0A ∷ []
 
 -- a packet without data
 abbrev pub head_bytes : Head → List ℕ
-head_bytes h = summed_bytes h ++ checksum_of (summed_bytes h) ∷ 0x0A ∷ []
+head_bytes h = closed (summed_bytes h)
 
 -- the fields of a packet whose command stands at a place
 abbrev pub fields_at : Form → ℕ → List ℕ → Head

@@ -1,4 +1,5 @@
 pub mod Numbers
+pub mod Forms
 pub mod Heads
 pub mod Data
 pub mod Packets

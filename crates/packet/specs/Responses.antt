@@ -11,12 +11,13 @@ use Rattle.codes.specs.Codes.{code_number, all_codes}
 use Rattle.packet.specs.declared.form.Form.{Form}
 use Rattle.packet.specs.declared.form.Form.TheVariants.{Standard, Network}
 use Rattle.packet.specs.declared.form.Head.{Head}
+use Rattle.packet.specs.declared.form.Packet.{Packet}
 use Rattle.packet.specs.declared.response.Outcome.{Outcome}
 use Rattle.packet.specs.declared.response.Reply.{Reply}
 use Rattle.packet.specs.declared.response.Response.{Response}
 use Rattle.packet.specs.Data.{answers_with_data, split_data}
 use Rattle.packet.specs.Heads.{read_head}
-use Rattle.packet.specs.Packets.{packet_bytes}
+use Rattle.packet.specs.Packets.{bytes_of, packet_bytes}
 
 -- what a response says
 pub record ResponseParts : Type 0 where
@@ -53,6 +54,11 @@ bytes_in (Some form) o bs = outcome_bytes form o bs
 
 abbrev pub reply_bytes : ℕ → Reply → List ℕ
 reply_bytes own y = bytes_in (reply_form own y.to) y.outcome y.«data».now
+
+-- what is sent: one packet, or none
+abbrev pub sent_bytes : Option Packet → List ℕ
+sent_bytes None = []
+sent_bytes (Some p) = bytes_of p
 
 -- the packet at the front of some bytes, in the form that its start code says
 abbrev pub either_head : List ℕ → Result (Head × List ℕ) Refusal

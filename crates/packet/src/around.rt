@@ -1,9 +1,9 @@
-ghost use Rattle.std.specs.Prelude.{◌≡◌};
+ghost use Rattle.std.specs.Prelude.{◌≡◌, true};
 ghost use Rattle.packet.specs.Around.{data_place, standing};
 ghost use Rattle.packet.specs.Packets.{packet_bytes, written, written_count};
 ghost use Rattle.packet.specs.Responses.{bytes_in, reply_form};
 
-use crate::form::{END_CODE, Form, Head};
+use crate::form::{END_CODE, Form, Head, Packet};
 use crate::response::{Outcome, carries_data, outcome_head, reply_form};
 use crate::write::{head_length, write_head};
 
@@ -22,25 +22,19 @@ pub fn data_place(to: Form, outcome: Outcome) -> Option<usize>
     }
 }
 
-/// Writes a packet at the front of `out` and, where it carries data, 0x0A behind the `length` bytes that
-/// stand behind it already. Says how many bytes that are; where they have no room, nothing is written.
-fn write_around(out: &mut [u8], head: Head, carries: bool, length: usize) -> Option<usize>
+/// Writes a packet at the front of `out`, and 0x0A behind its data, `length` bytes that stand behind it
+/// already. Says how many bytes that are; where they have no room, nothing is written.
+fn write_around(out: &mut [u8], head: Head, length: usize) -> Option<usize>
     ensures count { result ≡ written_count
-        (packet_bytes head carries (standing head.form length out.old)) out.old }
+        (packet_bytes head true (standing head.form length out.old)) out.old }
     ensures bytes { out.new ≡ written
-        (packet_bytes head carries (standing head.form length out.old)) out.old }
+        (packet_bytes head true (standing head.form length out.old)) out.old }
 {
-    let n = head_length(head.form);
-    if out.len() < n {
+    let end = head_length(head.form).checked_add(length)?;
+    if out.len() <= end {
         return None;
     }
-    if !carries {
-        return Some(write_head(out, head));
-    }
-    if out.len() - n <= length {
-        return None;
-    }
-    let end = write_head(out, head) + length;
+    write_head(out, head);
     out[end] = END_CODE;
     Some(end + 1)
 }
@@ -60,11 +54,13 @@ pub fn write_reply_around(
     ensures bytes { out.new ≡ written
         (bytes_in (reply_form own to) outcome (standing to length out.old)) out.old }
 {
-    match reply_form(own, to) {
-        None => Some(0),
-        Some(form) => {
-            let head = outcome_head(form, outcome);
-            write_around(out, head, carries_data(outcome), length)
-        }
+    let Some(form) = reply_form(own, to) else {
+        return Some(0);
+    };
+    let head = outcome_head(form, outcome);
+    if carries_data(outcome) {
+        write_around(out, head, length)
+    } else {
+        Packet { head, data: None }.write(out)
     }
 }

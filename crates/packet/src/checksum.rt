@@ -5,9 +5,5 @@ ghost use Rattle.packet.specs.Numbers.{checksum_of};
 pub(crate) fn checksum(bytes: &[u8]) -> u8
     ensures { result ≡ checksum_of bytes.now }
 {
-    let mut sum: u8 = 0;
-    for b in bytes {
-        sum = sum.wrapping_add(*b);
-    }
-    sum
+    bytes.iter().fold(0, |sum: u8, b| sum.wrapping_add(*b))
 }

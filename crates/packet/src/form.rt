@@ -1,4 +1,8 @@
+ghost use Rattle.std.specs.Prelude.{Some};
+ghost use Rattle.packet.specs.Forms.{form_text};
+
 use codes::{Coded, Command};
+use std::fmt;
 
 /// The first byte of a standard packet.
 pub(crate) const STANDARD_START: u8 = 0x40;
@@ -18,8 +22,20 @@ pub enum Form {
     Network(u16),
 }
 
+impl fmt::Display for Form {
+    ghost output = { λ form. Some (form_text form) };
+
+    fn fmt<W: fmt::Write>(&self, f: &mut fmt::Formatter<W>) -> fmt::Result {
+        match self {
+            Form::Standard => write!(f, "standard"),
+            Form::Network(0) => write!(f, "network, broadcast"),
+            Form::Network(terminal) => write!(f, "network, terminal {terminal}"),
+        }
+    }
+}
+
 /// The fields that requests and responses share.
-#[derive(Clone, Copy)]
+#[derive(Clone, Copy, PartialEq, Eq, Debug)]
 pub(crate) struct Head {
     pub form: Form,
     pub command: Coded<Command>,
@@ -27,4 +43,11 @@ pub(crate) struct Head {
     pub size: u32,
     /// The flag of a request, the code of a response.
     pub flag: u8,
+}
+
+/// A packet, with the data behind it where it carries any.
+#[derive(Clone, Copy, PartialEq, Eq, Debug)]
+pub(crate) struct Packet<'a> {
+    pub head: Head,
+    pub data: Option<&'a [u8]>,
 }

@@ -1,42 +1,26 @@
-ghost use Rattle.std.specs.Prelude.{◌≡◌, ◌+◌, ◌*◌, ◌≤◌, [], ◌∷◌, ◌++◌, length, IfOk};
+ghost use Rattle.std.specs.Prelude.{◌≡◌, ◌++◌, IfOk};
 ghost use Rattle.codes.specs.declared.network.NetworkMode.TheVariants.{Single, Network};
-ghost use Rattle.packet.specs.Heads.{flaw, head_bytes, read_head, seen_head};
-ghost use Rattle.packet.specs.Numbers.{bytes16, bytes32};
+ghost use Rattle.packet.specs.Heads.{flaw, head_bytes, read_head, seen_head, unless};
 
 use crate::checksum::checksum;
+use crate::fields::number16;
 use crate::form::{END_CODE, Form, Head, NETWORK_START, STANDARD_START};
-use codes::{Coded, Refusal};
+use codes::Refusal;
 
-/// The number in two bytes, low byte first.
-fn number16(b0: u8, b1: u8) -> u16
-    ensures value { result ≡ b0 + b1 * 256 }
-    ensures back { bytes16 result ≡ b0 ∷ b1 ∷ [] }
-{
-    u16::from_le_bytes([b0, b1])
-}
-
-/// The number in four bytes, low byte first.
-fn number32(b0: u8, b1: u8, b2: u8, b3: u8) -> u32
-    ensures value { result ≡ b0 + b1 * 256 + b2 * 65536 + b3 * 16777216 }
-    ensures back { bytes32 result ≡ b0 ∷ b1 ∷ b2 ∷ b3 ∷ [] }
-{
-    u32::from_le_bytes([b0, b1, b2, b3])
-}
-
-/// The refusal for the first test of a packet that failed.
-fn first_flaw(start: bool, end: bool, sum: bool) -> Option<Refusal>
-    ensures { result ≡ flaw start end sum }
+/// The refusal for the first test of a packet that failed, if any did.
+fn no_flaw(start: bool, end: bool, sum: bool) -> Result<(), Refusal>
+    ensures { result ≡ unless (flaw start end sum) tt }
 {
     if !start {
-        return Some(Refusal::StartCode);
+        return Err(Refusal::StartCode);
     }
     if !end {
-        return Some(Refusal::EndCode);
+        return Err(Refusal::EndCode);
     }
     if !sum {
-        return Some(Refusal::Checksum);
+        return Err(Refusal::Checksum);
     }
-    None
+    Ok(())
 }
 
 /// Takes a standard packet apart, and what stands behind it.
@@ -64,17 +48,9 @@ pub(crate) fn standard_head(frame: &[u8]) -> Result<(Head, &[u8]), Refusal>
         return Err(Refusal::TooShort);
     };
     let right_sum = *sum == checksum(&frame[0..11]);
-    if let Some(refusal) = first_flaw(*start == STANDARD_START, *end == END_CODE, right_sum) {
-        return Err(refusal);
-    }
-    let head = Head {
-        form: Form::Standard,
-        command: Coded::of(*command),
-        param: number32(*p0, *p1, *p2, *p3),
-        size: number32(*s0, *s1, *s2, *s3),
-        flag: *flag,
-    };
-    Ok((head, rest))
+    no_flaw(*start == STANDARD_START, *end == END_CODE, right_sum)?;
+    let fields = [*command, *p0, *p1, *p2, *p3, *s0, *s1, *s2, *s3, *flag];
+    Ok((Head::of(Form::Standard, fields), rest))
 }
 
 /// Takes a network packet apart, and what stands behind it.
@@ -104,15 +80,7 @@ pub(crate) fn network_head(frame: &[u8]) -> Result<(Head, &[u8]), Refusal>
         return Err(Refusal::TooShort);
     };
     let right_sum = *sum == checksum(&frame[0..13]);
-    if let Some(refusal) = first_flaw(*start == NETWORK_START, *end == END_CODE, right_sum) {
-        return Err(refusal);
-    }
-    let head = Head {
-        form: Form::Network(number16(*t0, *t1)),
-        command: Coded::of(*command),
-        param: number32(*p0, *p1, *p2, *p3),
-        size: number32(*s0, *s1, *s2, *s3),
-        flag: *flag,
-    };
-    Ok((head, rest))
+    no_flaw(*start == NETWORK_START, *end == END_CODE, right_sum)?;
+    let fields = [*command, *p0, *p1, *p2, *p3, *s0, *s1, *s2, *s3, *flag];
+    Ok((Head::of(Form::Network(number16(*t0, *t1)), fields), rest))
 }

@@ -4,6 +4,7 @@
 mod around;
 mod behind;
 mod checksum;
+mod fields;
 mod form;
 mod head;
 mod marked;

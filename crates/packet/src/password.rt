@@ -8,9 +8,5 @@ pub const PASSWORD_LENGTH: usize = 16;
 pub fn password_sum(password: &[u8; PASSWORD_LENGTH]) -> u16
     ensures { result ≡ password_sum password.now }
 {
-    let mut sum: u16 = 0;
-    for b in password {
-        sum += u16::from(*b);
-    }
-    sum
+    password.iter().map(|b| u16::from(*b)).sum()
 }

@@ -7,13 +7,12 @@ ghost use Rattle.packet.specs.Requests.{is_for, nothing_behind, read_request, re
 ghost use Rattle.packet.specs.Trips.{Heard};
 
 use crate::behind::{asks_with_data, split_data};
-use crate::form::{Form, Head};
+use crate::form::{Form, Head, Packet};
 use crate::head::{network_head, standard_head};
-use crate::write::{packet_length, write_packet};
 use codes::{Coded, Command, NetworkMode, Refusal};
 
 /// A request.
-#[derive(Clone, Copy)]
+#[derive(Clone, Copy, PartialEq, Eq, Debug)]
 pub struct Request<'a> {
     pub form: Form,
     pub command: Coded<Command>,
@@ -40,7 +39,8 @@ fn request_data(head: Head, rest: &[u8]) -> Result<&[u8], Refusal>
         (split_data (asks_with_data head.command) head.size rest.now) }
     ensures back { IfOk result (λ x. data_bytes (asks_with_data head.command) x.now ≡ rest.now) }
 {
-    let (data, behind) = split_data(asks_with_data(head.command), head.size, rest)?;
+    let size = asks_with_data(head.command).then_some(head.size);
+    let (data, behind) = split_data(size, rest)?;
     if !behind.is_empty() {
         return Err(Refusal::DataLength);
     }
@@ -93,9 +93,6 @@ pub fn write_request(out: &mut [u8], request: Request<'_>) -> Option<usize>
         size: request.size,
         flag: request.flag,
     };
-    let carries = asks_with_data(request.command);
-    if out.len() < packet_length(head, carries, request.data) {
-        return None;
-    }
-    Some(write_packet(out, head, carries, request.data))
+    let data = asks_with_data(request.command).then_some(request.data);
+    Packet { head, data }.write(out)
 }

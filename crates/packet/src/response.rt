@@ -1,17 +1,16 @@
-ghost use Rattle.std.specs.Prelude.{◌≡◌, ◌≤◌, ◌++◌, length, take, drop, IfSome};
-ghost use Rattle.packet.specs.Heads.{read_head, seen_head};
+ghost use Rattle.std.specs.Prelude.{◌≡◌, ◌++◌, length, take, IfSome};
+ghost use Rattle.packet.specs.Heads.{seen_head};
 ghost use Rattle.packet.specs.Packets.{written, written_count};
-ghost use Rattle.packet.specs.Responses.{carries, either_head, outcome_head, read_response, reply_bytes, reply_form, seen_response};
+ghost use Rattle.packet.specs.Responses.{carries, either_head, outcome_head, read_response, reply_bytes, reply_form, seen_response, sent_bytes};
 ghost use Rattle.packet.specs.Trips.{Proper, ReadAs, sent};
 
 use crate::behind::{answers_with_data, split_data};
-use crate::form::{Form, Head, NETWORK_START};
+use crate::form::{Form, Head, NETWORK_START, Packet};
 use crate::head::{network_head, standard_head};
-use crate::write::{packet_length, write_packet};
-use codes::{Code, Coded, Command, Numbered, Refusal};
+use codes::{Code, Coded, Command, Refusal};
 
 /// What became of a request.
-#[derive(Clone, Copy)]
+#[derive(Clone, Copy, PartialEq, Eq, Debug)]
 pub struct Outcome {
     pub command: Coded<Command>,
     pub param: u32,
@@ -20,7 +19,7 @@ pub struct Outcome {
 }
 
 /// An outcome, the form of the request that it belongs to, and the data that LT and RT answer.
-#[derive(Clone, Copy)]
+#[derive(Clone, Copy, PartialEq, Eq, Debug)]
 pub struct Reply<'a> {
     pub to: Form,
     pub outcome: Outcome,
@@ -28,7 +27,7 @@ pub struct Reply<'a> {
 }
 
 /// A response, as it was read.
-#[derive(Clone, Copy)]
+#[derive(Clone, Copy, PartialEq, Eq, Debug)]
 pub struct Response<'a> {
     pub form: Form,
     pub command: Coded<Command>,
@@ -65,9 +64,9 @@ pub fn read_response(bytes: &[u8]) -> Result<(Response<'_>, &[u8]), Refusal>
     ensures { seen_response result ≡ read_response bytes.now }
 {
     let (head, rest) = either_head(bytes)?;
-    let code = Coded::of(head.flag);
-    let carries = answers_with_data(head.command, code);
-    let (data, behind) = split_data(carries, head.size, rest)?;
+    let code = Coded::from(head.flag);
+    let size = answers_with_data(head.command, code).then_some(head.size);
+    let (data, behind) = split_data(size, rest)?;
     let response = Response {
         form: head.form,
         command: head.command,
@@ -88,7 +87,7 @@ pub(crate) fn outcome_head(form: Form, outcome: Outcome) -> Head
         command: outcome.command,
         param: outcome.param,
         size: outcome.size,
-        flag: outcome.code.number(),
+        flag: u8::from(outcome.code),
     }
 }
 
@@ -99,31 +98,25 @@ pub(crate) fn carries_data(outcome: Outcome) -> bool
     answers_with_data(outcome.command, Coded::Known(outcome.code))
 }
 
-/// How many bytes a reply takes.
-fn reply_length(own: u16, reply: Reply<'_>) -> usize
-    ensures { result ≡ length (reply_bytes own reply.entry) }
-{
-    match reply_form(own, reply.to) {
-        None => 0,
-        Some(form) => {
-            let head = outcome_head(form, reply.outcome);
-            packet_length(head, carries_data(reply.outcome), reply.data)
-        }
+impl<'a> Reply<'a> {
+    /// The packet that the module `own` sends; none for a broadcast.
+    fn packet(self, own: u16) -> Option<Packet<'a>>
+        ensures { sent_bytes result ≡ reply_bytes own self.entry }
+    {
+        let form = reply_form(own, self.to)?;
+        Some(Packet {
+            head: outcome_head(form, self.outcome),
+            data: carries_data(self.outcome).then_some(self.data),
+        })
     }
-}
 
-/// Writes a reply at the front of `out`, and says how many bytes it takes.
-fn put_reply(out: &mut [u8], own: u16, reply: Reply<'_>) -> usize
-    requires { length (reply_bytes own reply) ≤ length out.old }
-    ensures count { result ≡ length (reply_bytes own reply.entry) }
-    ensures bytes { out.new ≡ reply_bytes own reply.entry
-        ++ drop (length (reply_bytes own reply.entry)) out.old }
-{
-    match reply_form(own, reply.to) {
-        None => 0,
-        Some(form) => {
-            let head = outcome_head(form, reply.outcome);
-            write_packet(out, head, carries_data(reply.outcome), reply.data)
+    /// How many bytes it takes.
+    fn length(self, own: u16) -> usize
+        ensures { result ≡ length (reply_bytes own self.entry) }
+    {
+        match self.packet(own) {
+            None => 0,
+            Some(packet) => packet.length(),
         }
     }
 }
@@ -136,10 +129,10 @@ pub fn write_reply(out: &mut [u8], own: u16, reply: Reply<'_>) -> Option<usize>
     ensures reads { Proper reply.entry
         → IfSome result (λ n. ReadAs (take n out.new) (sent own reply.entry)) }
 {
-    if out.len() < reply_length(own, reply) {
-        return None;
+    match reply.packet(own) {
+        None => Some(0),
+        Some(packet) => packet.write(out),
     }
-    Some(put_reply(out, own, reply))
 }
 
 /// Writes two replies, the second right behind the first, and says how many bytes they take.
@@ -152,13 +145,11 @@ pub fn write_replies(out: &mut [u8], own: u16, first: Reply<'_>, second: Reply<'
     ensures reads { Proper first.entry → Proper second.entry
         → IfSome result (λ n. ReadAs (take n out.new) (sent own first.entry ++ sent own second.entry)) }
 {
-    let length = reply_length(own, first);
+    let length = first.length(own);
     if out.len() < length {
         return None;
     }
-    if out.len() - length < reply_length(own, second) {
-        return None;
-    }
-    let n = put_reply(out, own, first);
-    Some(n + put_reply(&mut out[n..], own, second))
+    // The second is written first: where it has no room, nothing is written. The first has room.
+    let behind = write_reply(&mut out[length..], own, second)?;
+    Some(write_reply(out, own, first)? + behind)
 }

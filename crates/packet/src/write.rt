@@ -1,66 +1,25 @@
 ghost use Rattle.std.specs.Prelude.{◌≡◌, ◌+◌, ◌≤◌, [], ◌∷◌, ◌++◌, length, drop};
-ghost use Rattle.packet.specs.Heads.{head_bytes, head_length, in_form};
-ghost use Rattle.packet.specs.Packets.{packet_bytes};
-ghost use Rattle.packet.specs.declared.form.Form.TheVariants.{Standard, Network};
+ghost use Rattle.packet.specs.Heads.{closed, head_bytes, head_length};
+ghost use Rattle.packet.specs.Packets.{bytes_of, written, written_count};
 
 use crate::checksum::checksum;
-use crate::form::{END_CODE, Form, Head, NETWORK_START, STANDARD_START};
+use crate::form::{END_CODE, Form, Head, NETWORK_START, Packet, STANDARD_START};
 
-/// The 13 bytes of a standard packet with these fields.
-fn standard_bytes(head: Head) -> [u8; 13]
-    ensures { result ≡ head_bytes (in_form Standard head) }
+/// Writes what the checksum of a packet is over, its start and its fields, then the checksum and the end
+/// code at the front of `out`, and says how many bytes that are.
+fn write_closed(out: &mut [u8], start: &[u8], fields: &[u8]) -> usize
+    requires { length start.now + length fields.now + 2 ≤ length out.old }
+    ensures count { result ≡ length start.now + length fields.now + 2 }
+    ensures bytes { out.new ≡ closed (start.now ++ fields.now)
+        ++ drop (length start.now + length fields.now + 2) out.old }
 {
-    let command = head.command.byte();
-    let [p0, p1, p2, p3] = head.param.to_le_bytes();
-    let [s0, s1, s2, s3] = head.size.to_le_bytes();
-    let flag = head.flag;
-    let mut bytes = [
-        STANDARD_START,
-        command,
-        p0,
-        p1,
-        p2,
-        p3,
-        s0,
-        s1,
-        s2,
-        s3,
-        flag,
-        0,
-        END_CODE,
-    ];
-    bytes[11] = checksum(&bytes[0..11]);
-    bytes
-}
-
-/// The 15 bytes of a network packet with these fields.
-fn network_bytes(terminal: u16, head: Head) -> [u8; 15]
-    ensures { result ≡ head_bytes (in_form (Network terminal) head) }
-{
-    let [t0, t1] = terminal.to_le_bytes();
-    let command = head.command.byte();
-    let [p0, p1, p2, p3] = head.param.to_le_bytes();
-    let [s0, s1, s2, s3] = head.size.to_le_bytes();
-    let flag = head.flag;
-    let mut bytes = [
-        NETWORK_START,
-        t0,
-        t1,
-        command,
-        p0,
-        p1,
-        p2,
-        p3,
-        s0,
-        s1,
-        s2,
-        s3,
-        flag,
-        0,
-        END_CODE,
-    ];
-    bytes[13] = checksum(&bytes[0..13]);
-    bytes
+    let front = start.len();
+    let n = front + fields.len();
+    out[0..front].copy_from_slice(start);
+    out[front..n].copy_from_slice(fields);
+    out[n] = checksum(&out[0..n]);
+    out[n + 1] = END_CODE;
+    n + 2
 }
 
 /// Writes a packet without data at the front of `out`, and says how long it is.
@@ -70,20 +29,18 @@ pub(crate) fn write_head(out: &mut [u8], head: Head) -> usize
     ensures bytes { out.new ≡ head_bytes head
         ++ drop (head_length head.form) out.old }
 {
+    let fields = head.field_bytes();
     match head.form {
-        Form::Standard => {
-            out[0..13].copy_from_slice(&standard_bytes(head));
-            13
-        }
+        Form::Standard => write_closed(out, &[STANDARD_START], &fields),
         Form::Network(terminal) => {
-            out[0..15].copy_from_slice(&network_bytes(terminal, head));
-            15
+            let [t0, t1] = terminal.to_le_bytes();
+            write_closed(out, &[NETWORK_START, t0, t1], &fields)
         }
     }
 }
 
 /// Writes data and the 0x0A behind it at the front of `out`, and says how many bytes that are.
-pub(crate) fn write_data(out: &mut [u8], data: &[u8]) -> usize
+fn write_data(out: &mut [u8], data: &[u8]) -> usize
     requires { length «data».now + 1 ≤ length out.old }
     ensures count { result ≡ length «data».now + 1 }
     ensures bytes { out.new ≡ («data».now ++ 0x0A ∷ [])
@@ -105,25 +62,31 @@ pub(crate) fn head_length(form: Form) -> usize
     }
 }
 
-/// How long a packet is with the data that it carries.
-pub(crate) fn packet_length(head: Head, carries: bool, data: &[u8]) -> usize
-    ensures { result ≡ length (packet_bytes head carries «data».now) }
-{
-    let n = head_length(head.form);
-    if carries { n + data.len() + 1 } else { n }
-}
+impl Packet<'_> {
+    /// How long it is with the data that it carries.
+    pub fn length(self) -> usize
+        ensures { result ≡ length (bytes_of self.entry) }
+    {
+        let n = head_length(self.head.form);
+        match self.data {
+            None => n,
+            Some(data) => n + data.len() + 1,
+        }
+    }
 
-/// Writes a packet and the data that it carries at the front of `out`, and says how long that is.
-pub(crate) fn write_packet(out: &mut [u8], head: Head, carries: bool, data: &[u8]) -> usize
-    requires { length (packet_bytes head carries «data».now) ≤ length out.old }
-    ensures count { result ≡ length (packet_bytes head carries «data».now) }
-    ensures bytes { out.new ≡ packet_bytes head carries «data».now
-        ++ drop (length (packet_bytes head carries «data».now)) out.old }
-{
-    let n = write_head(out, head);
-    if carries {
-        n + write_data(&mut out[n..], data)
-    } else {
-        n
+    /// Writes it with the data that it carries at the front of `out`, and says how many bytes it takes.
+    /// Where it has no room, nothing is written.
+    pub fn write(self, out: &mut [u8]) -> Option<usize>
+        ensures count { result ≡ written_count (bytes_of self.entry) out.old }
+        ensures bytes { out.new ≡ written (bytes_of self.entry) out.old }
+    {
+        if out.len() < self.length() {
+            return None;
+        }
+        let n = write_head(out, self.head);
+        match self.data {
+            None => Some(n),
+            Some(data) => Some(n + write_data(&mut out[n..], data)),
+        }
     }
 }

@@ -1,12 +1,12 @@
 -- A template less: its record goes behind the others, so that its page is the first free one.
-use Rattle.std.proofs.Common.{◌≡◌, ℕ, zero, suc, ◌+◌, ◌-◌, ◌<◌, ◌≤◌, cond, eqb, ltb, ◌≢◌, List, [], ◌∷◌, ◌++◌, map, length, get_or, take, drop, Some, sym, refl, ap, ◌∙◌, ⊎_elim, add-one, arith}
-use Rattle.std.specs.List.{remove}
-use Rattle.std.proofs.lemmas.List.{length-append, length-drop, length-take-le, drop_more, get_or_at, get_or-take, get_or-drop, get_or_append_left, get_or-append_right, get_or_default, map-append, take-map, drop-map, take_all, drop_all, take_at, append_assoc, append-nil}
+use Rattle.std.proofs.Common.{◌≡◌, ℕ, Bool, suc, ◌+◌, ◌-◌, ◌<◌, ◌≤◌, cond, eqb, ltb, ◌≢◌, List, [], ◌∷◌, ◌++◌, map, length, get_or, take, drop, Some, sym, refl, ap, ◌∙◌, ⊎_elim, arith}
+use Rattle.std.specs.List.{position_or_len, remove}
+use Rattle.std.proofs.lemmas.List.Sums.{position_or_len_is}
+use Rattle.std.proofs.lemmas.List.{length-append, length-drop, length-take-le, drop_more, get_or_at, get_or-take, get_or-drop, get_or_append_left, get_or-append_right, map-append, take-map, drop-map, take_all, drop_all, take_at, append_assoc, append-nil}
 use Rattle.std.proofs.lemmas.List.Edits.{length-remove, get_or-remove_below, get_or-remove_above}
-use Rattle.std.proofs.lemmas.Bool.{cases_lt, cases_eq, cases_order}
+use Rattle.std.proofs.lemmas.Bool.{cases_lt, cases_eq, cases_order, eq-eqb, ne_eqb}
 use Rattle.std.proofs.lemmas.Bool.Decides.{nat_tests}
-use Rattle.rows.specs.Rows.{place_from, place_of, struck, struck_at}
-use Rattle.rows.proofs.Places.{place-yes, place-no}
+use Rattle.rows.specs.Rows.{place_of, struck, struck_at}
 use Rattle.page_memory.specs.declared.directory.Record.{Record}
 use Rattle.page_memory.specs.declared.layout.PageMemory.{PageMemory}
 use Rattle.page_memory.specs.Pages.{blank, record_at, Filed, Inside, Apart}
@@ -14,19 +14,12 @@ use Rattle.page_memory.specs.Contents.{bytes_of, room_of}
 use Rattle.page_memory.specs.Listed.{enough}
 
 -- the first row with the key is the one at a place before which no row has it
-module _ {X : Type 0} (key_of : X → ℕ) (xs : List X) (at : ℕ) (d : X) (inside : at < length xs)
-    (first : (k : ℕ) → k < at → key_of (get_or xs k d) ≡ key_of (get_or xs at d) → ⊥) where
-  passed : (i : ℕ) → i ≤ at → place_from key_of (key_of (get_or xs at d)) i (drop i xs) ≡ place_of key_of (key_of (get_or xs at d)) xs
-  passed zero l = refl
-  passed (suc i) l =
-      let here : i < length xs = omega arith in
-      rw add-one at (place-no key_of (key_of (get_or xs at d)) xs i (get_or xs i d) here (get_or_default xs i d (get_or xs i d) here) (first i (omega arith)))
-      ∙ passed i (omega arith)
-
-  pub found_at : place_of key_of (key_of (get_or xs at d)) xs ≡ Some at
-  found_at =
-      sym (passed at (omega arith))
-      ∙ sym (place-yes key_of (key_of (get_or xs at d)) xs at (get_or xs at d) inside (get_or_default xs at d (get_or xs at d) inside) refl)
+found_at : {X : Type 0} (key_of : X → ℕ) (xs : List X) (at : ℕ) (d : X) → at < length xs
+    → ((k : ℕ) → k < at → key_of (get_or xs k d) ≡ key_of (get_or xs at d) → ⊥) → place_of key_of (key_of (get_or xs at d)) xs ≡ Some at
+found_at {X = X} key_of xs at d inside first =
+    let has : X → Bool = λ x. eqb (key_of x) (key_of (get_or xs at d)) in
+    let i : position_or_len has xs ≡ at = position_or_len_is has xs at d (omega arith) (λ k l. ne_eqb _ _ (first k l)) (λ _. eq-eqb _ _ refl) in
+    grind (arith, nat_tests)
 
 pub map-removed : {X Y : Type 0} (f : X → Y) (xs : List X) (at : ℕ) → map f (remove xs at) ≡ remove (map f xs) at
 map-removed f xs at = map-append f (take at xs) (drop (suc at) xs) ∙ rw (take-map, drop-map)

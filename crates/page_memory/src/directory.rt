@@ -2,6 +2,7 @@ ghost use Rattle.std.specs.Prelude.{◌≡◌, ℕ, ◌<◌, length};
 ghost use Rattle.page_memory.specs.Pages.{record_at};
 
 use rows::Keyed;
+use std::array;
 
 /// The records of a directory: a memory uses no more pages than these.
 pub(crate) const RECORDS: usize = 64;
@@ -26,12 +27,8 @@ pub(crate) fn all_free() -> [Record; RECORDS]
     ensures long { length result ≡ 64 }
     ensures numbered { (k : ℕ) → k < 64 → (record_at result k).page ≡ k }
 {
-    let mut directory = [Record { id: 0, page: 0 }; RECORDS];
-    for at in 0..RECORDS {
-        directory[at] = Record {
-            id: 0,
-            page: at as u16,
-        };
-    }
-    directory
+    array::from_fn(|at| Record {
+        id: 0,
+        page: at as u16,
+    })
 }

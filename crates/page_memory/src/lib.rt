@@ -37,21 +37,17 @@ impl PageMemory {
 impl Memory for PageMemory {
     const T: usize = PAGE;
 
-    ghost size = { 256 };
+    ghost T = { 256 };
 
     ghost held = { held_by };
 
     ghost room = { room_of };
 
-    ghost sized = { first_of (Prim.search rules, Prim.grind (arith, Self.row.coded.inj)) };
+    ghost sized = { Prim.search rules };
 
     ghost within = { λ m. held-within m };
 
     ghost sound = { λ m. held-sound m };
-
-    fn template_size() -> usize {
-        Self::T
-    }
 
     fn capacity(&self) -> usize {
         (self.bytes.len() / PAGE).min(RECORDS)
@@ -62,11 +58,9 @@ impl Memory for PageMemory {
     }
 
     fn id_at(&self, place: usize) -> Option<u16> {
-        if place < self.count {
-            Some(self.directory[place].id)
-        } else {
-            None
-        }
+        self.directory[..self.count]
+            .get(place)
+            .map(|record| record.id)
     }
 
     fn copy_at(&self, place: usize, into: &mut [u8]) -> Option<usize> {

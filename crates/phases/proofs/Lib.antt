@@ -1,2 +1,2 @@
-pub mod Ends
+pub mod Templates
 pub mod Waits

@@ -1,56 +1,51 @@
--- A request waits, and another comes, or a second passes.
-use Rattle.std.proofs.Common.{◌≡◌, ℕ, ◌-◌, Bool, true, false, cond, not, ◌||◌, eqb, ltb, List, [], ◌∷◌, length, Some, None, Option, sym, refl, ap, ◌∙◌, arith}
-use Rattle.codes.specs.Commands.{command_number}
+-- A request waits, and a finger comes, or a second passes.
+use Rattle.std.proofs.Common.{◌≡◌, ℕ, ◌≤◌, cond, not, ◌||◌, eqb, ltb, Bool, true, false, List, [], ◌∷◌, length, Some, None, Ok, Option, refl, ap, ◌∙◌, arith}
 use Rattle.codes.specs.declared.code.Code.{Code}
-use Rattle.codes.specs.declared.code.Code.TheVariants.{Busy, Canceled, ScanFail, Success, TimeOut, TryAgain}
-use Rattle.codes.specs.declared.command.Command.{Command}
-use Rattle.codes.specs.declared.command.Command.TheVariants.{Cancel}
-use Rattle.device.specs.View.{plain, waiting_of, went}
-use Rattle.device.specs.declared.answers.Answers.TheVariants.{One, Two}
-use Rattle.device.specs.declared.answers.Told.{Told}
-use Rattle.machine.specs.Answers.{Step, go, outcome, tell}
-use Rattle.machine.specs.Machine.{asked}
-use Rattle.machine.specs.State.{Phase, State, Waiting, awaiting, command_of}
-use Rattle.machine.specs.Waiting.{on_finger, on_second, pressed}
-use Rattle.packet.specs.Data.{known_among}
-use Rattle.packet.specs.Requests.{RequestParts}
+use Rattle.codes.specs.declared.code.Code.TheVariants.{NotFound, NotMatch, ScanFail, TimeOut, TryAgain}
+use Rattle.device.specs.View.{phase_of, view, waiting_of}
+use Rattle.device.specs.declared.awaited.Awaited.{Awaited}
+use Rattle.device.specs.declared.keeping.Device.{Device}
+use Rattle.machine.specs.Answers.{Step, go, tell}
+use Rattle.machine.specs.State.{Phase, State, Waiting, awaiting}
+use Rattle.machine.specs.Waiting.{identified, on_finger, on_second, pressed, verified}
+use Rattle.matcher.specs.declared.matching.Matcher.{Ghosts as Matching}
+use Rattle.memory.specs.declared.Memory.{Ghosts as Remembering}
 use Rattle.packet.specs.declared.form.Form.{Form}
-use Rattle.phases.specs.Events.{scan_fault, spoiled}
-use Rattle.phases.specs.Told.{command_in}
-use Rattle.std.proofs.lemmas.Bool.{eq-eqb, ne_eqb}
+use Rattle.packet.specs.declared.request.Request.{Request}
+use Rattle.phases.specs.Events.{as_came, decided, spoiled}
+use Rattle.phases.specs.Scans.{scan_fault}
+use Rattle.phases.specs.Told.{recognized, waiting_for}
+use Rattle.phases.specs.declared.good.GoodScan.{GoodScan}
+use Rattle.phases.specs.declared.scan.Event.{Event}
+use Rattle.phases.specs.declared.scan.Event.TheVariants.{Finger}
+use Rattle.std.proofs.lemmas.Bool.Decides.{nat_tests}
 
--- a request waits, whose command is known
-pub by-waiting : (form : Form) (left : ℕ) (p : Option Phase) (command : Command) (Q : Option Phase → Option Waiting → Type 0)
-    → command_in (waiting_of form left p) ≡ Some command
-    → ((x : Phase) → command_of x ≡ command → Q (Some x) (Some (record { form = form; phase = x; left = left })))
-    → Q p (waiting_of form left p)
-by-waiting form left None command Q e f = absurd (let z : ◌≡◌ {A = ℕ} 0 1 = cc in omega arith)
-by-waiting form left (Some x) command Q e f = f x (cc)
+-- the last second of a wait ends it
+pub times_out : (s : State) (form : Form) (left : ℕ) (p : Option Phase) → left ≡ 1
+    → spoiled s (waiting_of form left p) TimeOut ≡ on_second s (waiting_of form left p)
+times_out s form left None last = refl
+times_out s form left (Some x) last = rw last
 
-module _ (s : State) (q : RequestParts) (w : Waiting) where
-  pub busy : (u : Told) → u ≡ record { to = q.form; outcome = outcome q.command 0 0 Busy }
-      → known_among command_number (Cancel ∷ []) q.command ≡ false → went s (One u) ≡ asked s (Some w) q
-  busy u e no-cancel = rw (e, no-cancel)
+-- a good scan
+pub good : (s : State) (w : Waiting) (scan : List ℕ) (quality : ℕ) → length scan ≡ s.size → 30 ≤ quality → quality ≤ 100
+    → pressed s w w.phase scan quality ≡ on_finger s (Some w) scan quality
+good s w scan quality long clear within = grind (arith, nat_tests)
 
-  pub cancels : (v : State) (t u : Told) → v ≡ awaiting s None → plain t ≡ tell w 0 0 Canceled
-      → u ≡ record { to = q.form; outcome = outcome q.command 0 0 Success }
-      → known_among command_number (Cancel ∷ []) q.command ≡ true → went v (Two t u) ≡ asked s (Some w) q
-  cancels v t u rests told own cancel =
-      ap (λ x. went x (Two t u)) rests ∙ ap (λ x. go (awaiting s None) (x ∷ plain u ∷ [])) told
-      ∙ ap (λ x. go (awaiting s None) (tell w 0 0 Canceled ∷ plain x ∷ [])) own ∙ rw cancel
+pub presses : {M S : Type 0} (f : Matching M) (g : Remembering S) (d : Device M S) (event : Event Request (GoodScan S g))
+    (x : GoodScan S g) (a : Awaited) (p : Phase) (r : Step) → event ≡ Finger x → d.awaited ≡ a
+    → phase_of g.T d.first a ≡ Some p → r ≡ pressed (view f g d) (waiting_for d p) p x.bytes.now x.quality
+    → Ok r ≡ decided (view f g d) (as_came event)
+presses f g d event x a p r comes waits there e =
+    rw (comes, waits, there)
+    (ap Ok (e ∙ good (view f g d) (waiting_for d p) x.bytes.now x.quality x.long x.clear x.within))
 
-pub times-out : (s : State) (w : Waiting) (x : Step) → x ≡ go (awaiting s None) (tell w 0 0 TimeOut ∷ []) → w.left ≡ 1
-    → x ≡ on_second s (Some w)
-times-out s w x e last =
-    e ∙ sym (ap (λ b. cond b (go (awaiting s None) (tell w 0 0 TimeOut ∷ []))
-    (go (awaiting s (Some (record { form = w.form; phase = w.phase; left = w.left - 1 }))) [])) (eq-eqb w.left 1 last))
+pub verifies : (s : State) (w : Waiting) (o : Option (ℕ × ℕ)) → recognized s w NotMatch o ≡ verified s w o
+verifies s w None = refl
+verifies s w (Some x) = refl
 
-pub counts-down : (s : State) (w : Waiting) (n : ℕ) → n ≡ w.left - 1 → (w.left ≡ 1 → ⊥)
-    → go (awaiting s (Some (record { form = w.form; phase = w.phase; left = n }))) [] ≡ on_second s (Some w)
-counts-down s w n less more =
-    ap (λ k. go (awaiting s (Some (record { form = w.form; phase = w.phase; left = k }))) []) less
-    ∙ sym (ap (λ b. cond b (go (awaiting s None) (tell w 0 0 TimeOut ∷ []))
-    (go (awaiting s (Some (record { form = w.form; phase = w.phase; left = w.left - 1 }))) [])) (ne_eqb w.left 1 more))
+pub identifies : (s : State) (w : Waiting) (o : Option (ℕ × ℕ)) → recognized s w NotFound o ≡ identified s w o
+identifies s w None = refl
+identifies s w (Some x) = refl
 
 -- a bad scan
 pub spoils : (s : State) (o : Option Waiting) (scan : List ℕ) (quality : ℕ) (code : Code)
@@ -62,6 +57,6 @@ spoils s (Some w) scan quality code e = at (not (eqb (length scan) s.size) || lt
         → go (awaiting s None) (tell w 0 0 code ∷ [])
         ≡ cond a (go (awaiting s None) (tell w 0 0 ScanFail ∷ []))
         (cond b (go (awaiting s None) (tell w 0 0 TryAgain ∷ [])) (pressed s w w.phase scan quality))
-    at true b e = let k : code ≡ ScanFail = cc in ap (λ x. go (awaiting s None) (tell w 0 0 x ∷ [])) k
-    at false true e = let k : code ≡ TryAgain = cc in ap (λ x. go (awaiting s None) (tell w 0 0 x ∷ [])) k
-    at false false e = absurd (let z : ◌≡◌ {A = ℕ} 0 1 = cc in omega arith)
+    at true b e = let k : code ≡ ScanFail = cc in rw k
+    at false true e = let k : code ≡ TryAgain = cc in rw k
+    at false false e = absurd (cc)

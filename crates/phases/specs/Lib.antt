@@ -1,2 +1,4 @@
 pub mod Told
+pub mod Scans
+pub mod Templates
 pub mod Events

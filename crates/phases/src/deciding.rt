@@ -1,23 +1,17 @@
-ghost use Rattle.std.specs.Prelude.{◌≡◌, ℕ, ◌≤◌, cond, [], ◌∷◌, length, Some, None, Err, OnErr, nat_lt};
-ghost use Rattle.codes.specs.Commands.{command_number};
-ghost use Rattle.codes.specs.declared.command.Command.TheVariants.{Cancel};
+ghost use Rattle.std.specs.Prelude.{◌≡◌, true, cond, length, is_some, Err, OnErr, nat_lt};
 ghost use Rattle.codes.specs.declared.refusal.Refusal.TheVariants.{WorkBuffer};
-ghost use Rattle.device.specs.View.{phase_of, tried, view, waiting_of, went};
-ghost use Rattle.device.specs.declared.awaited.FirstScan.{FirstScan};
-ghost use Rattle.machine.specs.Answers.{go, tell};
+ghost use Rattle.device.specs.View.{tried, view, went};
 ghost use Rattle.machine.specs.Machine.{asked};
 ghost use Rattle.machine.specs.Ready.{Ready};
-ghost use Rattle.machine.specs.State.{Waiting, awaiting, command_of};
 ghost use Rattle.machine.specs.Waiting.{on_second};
-ghost use Rattle.packet.specs.Data.{known_among};
 ghost use Rattle.packet.specs.Requests.{request_parts};
-ghost use Rattle.packet.specs.declared.form.Form.{Form as Shape};
-ghost use Rattle.phases.specs.Events.{Good, decided, scan_fault, spoiled};
+ghost use Rattle.phases.specs.Events.{as_came, decided, spoiled};
 ghost use Rattle.phases.specs.Told.{command_in};
 
-use crate::enrolling::{first_finger, second_finger};
-use crate::grants::{enroll_command, grant_to_delete, grant_to_enroll};
-use crate::persons::{delete, identify, verify};
+use crate::enrolling::{enroll_command, first_finger, second_finger};
+use crate::good::GoodScan;
+use crate::grants::{Grant, ask_administrator};
+use crate::persons::{OneId, Question, delete, recognize};
 use crate::scan::{Event, Scan};
 use crate::telling::tell;
 use codes::{Code, Coded, Command, Refusal};
@@ -28,69 +22,47 @@ use packet::Request;
 use requests::start;
 
 /// The command of the request that waits.
-fn command_of(awaited: Awaited) -> Option<Command>
-    ensures { (size : ℕ) (one : FirstScan) (form : Shape) (left : ℕ)
-        → command_in (waiting_of form left (phase_of size one awaited)) ≡ result }
+fn command_of<M: Matcher, S: Memory>(device: &Device<M, S>) -> Option<Command>
+    ensures { result ≡ command_in (view M.Matcher S.Memory device.now).waiting }
 {
-    match awaited {
+    match device.awaited {
         Awaited::Nothing => None,
-        Awaited::GrantToEnroll(enrollment) => Some(enroll_command(enrollment.by)),
-        Awaited::GrantToDelete(_) => Some(Command::DeleteByAdministrator),
-        Awaited::FirstFinger(enrollment) => Some(enroll_command(enrollment.by)),
-        Awaited::SecondFinger(enrollment) => Some(enroll_command(enrollment.by)),
+        Awaited::GrantToEnroll(enrollment)
+        | Awaited::FirstFinger(enrollment)
+        | Awaited::SecondFinger(enrollment) => Some(enroll_command(enrollment.by)),
+        Awaited::GrantToDelete(_) | Awaited::PersonToDelete(_) => {
+            Some(Command::DeleteByAdministrator)
+        }
         Awaited::PersonToVerify(_) => Some(Command::Verify),
         Awaited::PersonToIdentify(_) => Some(Command::Identify),
-        Awaited::PersonToDelete(_) => Some(Command::DeleteByAdministrator),
     }
 }
 
-/// Why a scan is no good.
-fn scan_fault(scan: Scan<'_>, size: usize) -> Option<Code>
-    ensures { result ≡ scan_fault (length scan.entry.bytes.now) size scan.entry.quality }
+/// The request that waits, where one does, ends with this code.
+fn give_up<M: Matcher, S: Memory>(device: &mut Device<M, S>, code: Code) -> Answers
+    ensures { went (view M.Matcher S.Memory device.new) result
+        ≡ spoiled (view M.Matcher S.Memory device.old) (view M.Matcher S.Memory device.old).waiting code }
 {
-    if scan.bytes.len() != size || scan.quality > 100 {
-        Some(Code::ScanFail)
-    } else if scan.quality < 30 {
-        Some(Code::TryAgain)
-    } else {
-        None
-    }
-}
-
-/// The request that waits ends with this code.
-fn give_up<M: Matcher, S: Memory>(
-    device: &mut Device<M, S>,
-    command: Command,
-    code: Code,
-) -> Answers
-    ensures { (w : Waiting) → w.form ≡ device.old.form → command_of w.phase ≡ command
-        → went (view M.Matcher S.Memory device.new) result
-        ≡ go (awaiting (view M.Matcher S.Memory device.old) None) (tell w 0 0 code ∷ []) }
-{
+    let Some(command) = command_of(device) else {
+        return Answers::Nothing;
+    };
     let told = tell(device, command, 0, 0, code);
     device.rest();
     Answers::One(told)
 }
 
-/// Whether a command is CA.
-fn is_cancel(command: Coded<Command>) -> bool
-    ensures { result ≡ known_among command_number (Cancel ∷ []) command }
-{
-    matches!(command, Coded::Known(Command::Cancel))
-}
-
 /// A request while another waits: only CA is heard.
-fn disturb<M: Matcher, S: Memory>(
-    device: &mut Device<M, S>,
-    command: Command,
-    request: Request<'_>,
-) -> Answers
-    ensures { command_in (view M.Matcher S.Memory device.old).waiting ≡ Some command
+fn disturb<M: Matcher, S: Memory>(device: &mut Device<M, S>, request: Request<'_>) -> Answers
+    ensures { is_some (view M.Matcher S.Memory device.old).waiting ≡ true
         → went (view M.Matcher S.Memory device.new) result
         ≡ asked (view M.Matcher S.Memory device.old)
         (view M.Matcher S.Memory device.old).waiting (request_parts request.entry) }
 {
-    if !is_cancel(request.command) {
+    // One does wait: what is awaited was matched before.
+    let Some(command) = command_of(device) else {
+        return Answers::Nothing;
+    };
+    if !matches!(request.command, Coded::Known(Command::Cancel)) {
         return Answers::One(Told::own(request, 0, 0, Code::Busy));
     }
     let canceled = tell(device, command, 0, 0, Code::Canceled);
@@ -99,14 +71,13 @@ fn disturb<M: Matcher, S: Memory>(
 }
 
 /// A second passes: a wait of n seconds ends with the n-th, and one without end goes on.
-fn tick<M: Matcher, S: Memory>(device: &mut Device<M, S>, command: Command) -> Answers
-    ensures { command_in (view M.Matcher S.Memory device.old).waiting ≡ Some command
-        → went (view M.Matcher S.Memory device.new) result
-        ≡ on_second (view M.Matcher S.Memory device.old)
-        (view M.Matcher S.Memory device.old).waiting }
+#[tactic(auto, using(crate::proofs::Waits::times_out))]
+fn tick<M: Matcher, S: Memory>(device: &mut Device<M, S>) -> Answers
+    ensures { went (view M.Matcher S.Memory device.new) result
+        ≡ on_second (view M.Matcher S.Memory device.old) (view M.Matcher S.Memory device.old).waiting }
 {
     if device.left == 1 {
-        return give_up(device, command, Code::TimeOut);
+        return give_up(device, Code::TimeOut);
     }
     device.left = device.left.saturating_sub(1);
     Answers::Nothing
@@ -115,129 +86,39 @@ fn tick<M: Matcher, S: Memory>(device: &mut Device<M, S>, command: Command) -> A
 /// What is awaited and what comes decide together.
 fn match_awaited<M: Matcher, S: Memory>(
     device: &mut Device<M, S>,
-    event: Event<'_>,
-    work: &mut [u8],
+    event: Event<Request<'_>, GoodScan<'_, S>>,
+    work: &mut [u8; LONGEST_TEMPLATE],
 ) -> Result<Answers, Refusal>
-    requires in_bounds { 384 ≤ length work.old }
-    requires good { Good S.Memory.size event }
     ensures value { Ready (view M.Matcher S.Memory device.old) → tried (view M.Matcher S.Memory device.new) result
-        ≡ decided (view M.Matcher S.Memory device.old) event.entry }
+        ≡ decided (view M.Matcher S.Memory device.old) (as_came event.entry) }
     ensures refused { OnErr result (view M.Matcher S.Memory device.new ≡ view M.Matcher S.Memory device.old) }
 {
     match (&mut device.awaited, event) {
         (Awaited::Nothing, Event::Packet(request)) => start(device, request, work),
-        (Awaited::Nothing, Event::Finger(_)) => Ok(Answers::Nothing),
-        (Awaited::Nothing, Event::Second) => Ok(Answers::Nothing),
-        (Awaited::GrantToEnroll(enrollment), Event::Packet(request)) => {
-            let command = enroll_command(enrollment.by);
-            Ok(disturb(device, command, request))
+        (Awaited::Nothing, Event::Finger(_) | Event::Second) => Ok(Answers::Nothing),
+        (_, Event::Packet(request)) => Ok(disturb(device, request)),
+        (_, Event::Second) => Ok(tick(device)),
+        (&mut Awaited::GrantToEnroll(enrollment), Event::Finger(scan)) => {
+            Ok(ask_administrator(device, Grant::to_enroll(enrollment), scan, work))
         }
-        (Awaited::GrantToEnroll(enrollment), Event::Finger(scan)) => {
-            let enrollment = *enrollment;
-            Ok(grant_to_enroll(device, enrollment, scan, work))
+        (&mut Awaited::GrantToDelete(range), Event::Finger(scan)) => {
+            Ok(ask_administrator(device, Grant::to_delete(range), scan, work))
         }
-        (Awaited::GrantToEnroll(enrollment), Event::Second) => {
-            let command = enroll_command(enrollment.by);
-            Ok(tick(device, command))
-        }
-        (Awaited::GrantToDelete(_), Event::Packet(request)) => {
-            Ok(disturb(device, Command::DeleteByAdministrator, request))
-        }
-        (Awaited::GrantToDelete(range), Event::Finger(scan)) => {
-            let range = *range;
-            Ok(grant_to_delete(device, range, scan, work))
-        }
-        (Awaited::GrantToDelete(_), Event::Second) => Ok(tick(
-            device,
-            Command::DeleteByAdministrator,
-        )),
-        (Awaited::FirstFinger(enrollment), Event::Packet(request)) => {
-            let command = enroll_command(enrollment.by);
-            Ok(disturb(device, command, request))
-        }
-        (Awaited::FirstFinger(enrollment), Event::Finger(scan)) => {
-            let enrollment = *enrollment;
+        (&mut Awaited::FirstFinger(enrollment), Event::Finger(scan)) => {
             Ok(first_finger(device, enrollment, scan, work))
         }
-        (Awaited::FirstFinger(enrollment), Event::Second) => {
-            let command = enroll_command(enrollment.by);
-            Ok(tick(device, command))
-        }
-        (Awaited::SecondFinger(enrollment), Event::Packet(request)) => {
-            let command = enroll_command(enrollment.by);
-            Ok(disturb(device, command, request))
-        }
-        (Awaited::SecondFinger(enrollment), Event::Finger(scan)) => {
-            let enrollment = *enrollment;
+        (&mut Awaited::SecondFinger(enrollment), Event::Finger(scan)) => {
             Ok(second_finger(device, enrollment, scan))
         }
-        (Awaited::SecondFinger(enrollment), Event::Second) => {
-            let command = enroll_command(enrollment.by);
-            Ok(tick(device, command))
+        (&mut Awaited::PersonToVerify(id), Event::Finger(scan)) => {
+            Ok(recognize(device, Question::VERIFY, &OneId(id), scan, work))
         }
-        (Awaited::PersonToVerify(_), Event::Packet(request)) => Ok(disturb(
-            device,
-            Command::Verify,
-            request,
-        )),
-        (Awaited::PersonToVerify(id), Event::Finger(scan)) => {
-            let id = *id;
-            Ok(verify(device, id, scan, work))
+        (&mut Awaited::PersonToIdentify(range), Event::Finger(scan)) => {
+            Ok(recognize(device, Question::IDENTIFY, &range, scan, work))
         }
-        (Awaited::PersonToVerify(_), Event::Second) => Ok(tick(device, Command::Verify)),
-        (Awaited::PersonToIdentify(_), Event::Packet(request)) => Ok(disturb(
-            device,
-            Command::Identify,
-            request,
-        )),
-        (Awaited::PersonToIdentify(range), Event::Finger(scan)) => {
-            let range = *range;
-            Ok(identify(device, range, scan, work))
-        }
-        (Awaited::PersonToIdentify(_), Event::Second) => Ok(tick(device, Command::Identify)),
-        (Awaited::PersonToDelete(_), Event::Packet(request)) => {
-            Ok(disturb(device, Command::DeleteByAdministrator, request))
-        }
-        (Awaited::PersonToDelete(range), Event::Finger(scan)) => {
-            let range = *range;
+        (&mut Awaited::PersonToDelete(range), Event::Finger(scan)) => {
             Ok(delete(device, range, scan, work))
         }
-        (Awaited::PersonToDelete(_), Event::Second) => Ok(tick(
-            device,
-            Command::DeleteByAdministrator,
-        )),
-    }
-}
-
-/// A scan that is no good ends the request that waits.
-fn spoil<M: Matcher, S: Memory>(device: &mut Device<M, S>, code: Code) -> Answers
-    ensures { went (view M.Matcher S.Memory device.new) result
-        ≡ spoiled (view M.Matcher S.Memory device.old) (view M.Matcher S.Memory device.old).waiting code }
-{
-    match command_of(device.awaited) {
-        Some(command) => give_up(device, command, code),
-        None => Answers::Nothing,
-    }
-}
-
-/// What comes, a bad scan told from a good one.
-fn decide_in<M: Matcher, S: Memory>(
-    device: &mut Device<M, S>,
-    event: Event<'_>,
-    work: &mut [u8],
-) -> Result<Answers, Refusal>
-    requires { 384 ≤ length work.old }
-    ensures value { Ready (view M.Matcher S.Memory device.old) → tried (view M.Matcher S.Memory device.new) result
-        ≡ decided (view M.Matcher S.Memory device.old) event.entry }
-    ensures refused { OnErr result (view M.Matcher S.Memory device.new ≡ view M.Matcher S.Memory device.old) }
-{
-    match event {
-        Event::Packet(_) => match_awaited(device, event, work),
-        Event::Finger(scan) => match scan_fault(scan, S::template_size()) {
-            Some(code) => Ok(spoil(device, code)),
-            None => match_awaited(device, event, work),
-        },
-        Event::Second => match_awaited(device, event, work),
     }
 }
 
@@ -247,7 +128,7 @@ fn decide_in<M: Matcher, S: Memory>(
 /// says. A refusal changes nothing.
 pub fn decide<M: Matcher, S: Memory>(
     device: &mut Device<M, S>,
-    event: Event<'_>,
+    event: Event<Request<'_>, Scan<'_>>,
     work: &mut [u8],
 ) -> Result<Answers, Refusal>
     ensures value { Ready (view M.Matcher S.Memory device.old) → tried (view M.Matcher S.Memory device.new) result
@@ -255,8 +136,15 @@ pub fn decide<M: Matcher, S: Memory>(
         (decided (view M.Matcher S.Memory device.old) event.entry) }
     ensures refused { OnErr result (view M.Matcher S.Memory device.new ≡ view M.Matcher S.Memory device.old) }
 {
-    if work.len() < LONGEST_TEMPLATE {
+    let Some(work) = work.first_chunk_mut::<LONGEST_TEMPLATE>() else {
         return Err(Refusal::WorkBuffer);
+    };
+    match event {
+        Event::Packet(request) => match_awaited(device, Event::Packet(request), work),
+        Event::Finger(scan) => match GoodScan::try_from(scan) {
+            Ok(scan) => match_awaited(device, Event::Finger(scan), work),
+            Err(code) => Ok(give_up(device, code)),
+        },
+        Event::Second => match_awaited(device, Event::Second, work),
     }
-    decide_in(device, event, work)
 }

@@ -1,53 +1,62 @@
-ghost use Rattle.std.specs.Prelude.{◌≡◌, ◌≤◌, [], ◌∷◌, length, Some};
-ghost use Rattle.codes.specs.declared.code.Code.TheVariants.{Continue};
+ghost use Rattle.std.specs.Prelude.{◌≡◌, Some};
 ghost use Rattle.administrators.specs.Rights.{permits};
 ghost use Rattle.administrators.specs.Table.{rows_of};
+ghost use Rattle.device.specs.View.{phase_of, view, went};
 ghost use Rattle.machine.specs.Administrators.{is_admin};
 ghost use Rattle.machine.specs.Searches.{found_by};
-ghost use Rattle.device.specs.View.{phase_of, view, went};
-ghost use Rattle.machine.specs.Answers.{tell};
-ghost use Rattle.machine.specs.State.{Phase, Waiting, command_of, enroll_command};
-ghost use Rattle.machine.specs.State.Phase.{grant_to_delete, grant_to_enroll};
-ghost use Rattle.machine.specs.Waiting.{goes_on, pressed};
+ghost use Rattle.machine.specs.State.{Phase, command_of, enroll_command};
+ghost use Rattle.machine.specs.Waiting.{granted};
 ghost use Rattle.phases.specs.Told.{waiting_for};
 
-use crate::scan::Scan;
-use crate::telling::{end, scanned, tell};
+use crate::enrolling::enroll_command;
+use crate::good::GoodScan;
+use crate::telling::{end, go_on, tell};
 use administrators::{Permitted, Right};
 use codes::{Code, Command};
-use device::{Answers, Awaited, Device};
-use machine::{Enroller, Enrollment};
+use device::{Answers, Awaited, Device, LONGEST_TEMPLATE};
+use machine::Enrollment;
 use matcher::Matcher;
 use memory::Memory;
 use search::IdRange;
 
-/// The command of an enrolment by fingers.
-pub(crate) fn enroll_command(by: Enroller) -> Command
-    ensures { result ≡ enroll_command by }
-{
-    match by {
-        Enroller::Host => Command::Enroll,
-        Enroller::Administrator => Command::EnrollByAdministrator,
-    }
+/// What an administrator may grant: by which right, the command that asks for it, and what is awaited then.
+#[derive(Clone, Copy)]
+pub(crate) struct Grant {
+    right: Right,
+    command: Command,
+    next: Awaited,
 }
 
-/// An administrator agreed: CONTINUE with the ID, and another finger is awaited.
-fn go_on<M: Matcher, S: Memory>(
-    device: &mut Device<M, S>,
-    command: Command,
-    id: u16,
-    awaited: Awaited,
-) -> Answers
-    ensures { (w : Waiting) (p : Phase) → w.form ≡ device.old.form → command_of w.phase ≡ command
-        → phase_of S.Memory.size device.old.first awaited ≡ Some p
-        → went (view M.Matcher S.Memory device.new) result
-        ≡ goes_on (view M.Matcher S.Memory device.old) w p (tell w id 0 Continue ∷ []) }
-{
-    let told = tell(device, command, u32::from(id), 0, Code::Continue);
-    let answers = scanned(device, command, told);
-    let form = device.form;
-    device.wait_for(awaited, form);
-    answers
+impl Grant {
+    /// ESA.
+    pub(crate) fn to_enroll(enrollment: Enrollment) -> Grant
+        ensures { result ≡ record {
+          right = Right.Enroll;
+          command = enroll_command enrollment.by;
+          next = Awaited.FirstFinger enrollment;
+        } }
+    {
+        Grant {
+            right: Right::Enroll,
+            command: enroll_command(enrollment.by),
+            next: Awaited::FirstFinger(enrollment),
+        }
+    }
+
+    /// DSA.
+    pub(crate) fn to_delete(range: IdRange) -> Grant
+        ensures { result ≡ record {
+          right = Right.Delete;
+          command = Command.DeleteByAdministrator;
+          next = Awaited.PersonToDelete range;
+        } }
+    {
+        Grant {
+            right: Right::Delete,
+            command: Command::DeleteByAdministrator,
+            next: Awaited::PersonToDelete(range),
+        }
+    }
 }
 
 /// The oldest template that agrees, of the administrators who have the right.
@@ -55,11 +64,9 @@ fn find_administrator<M: Matcher, S: Memory>(
     device: &Device<M, S>,
     right: Right,
     scan: &[u8],
-    work: &mut [u8],
+    work: &mut [u8; LONGEST_TEMPLATE],
 ) -> Option<(u16, u32)>
-    requires { 384 ≤ length work.old }
-    ensures { result ≡ found_by
-        (view M.Matcher S.Memory device.now)
+    ensures { result ≡ found_by (view M.Matcher S.Memory device.now)
         (is_admin (permits right) (rows_of device.now.admins)) scan.now }
 {
     let permitted = Permitted {
@@ -69,44 +76,29 @@ fn find_administrator<M: Matcher, S: Memory>(
     device.find(&permitted, scan, work)
 }
 
-/// ESA: a good scan, compared with the templates of those who may let others enrol.
-pub(crate) fn grant_to_enroll<M: Matcher, S: Memory>(
+/// ESA and DSA: a good scan, compared with the templates of the administrators who have the right. One who agrees is
+/// named by CONTINUE, and another finger is awaited.
+pub(crate) fn ask_administrator<M: Matcher, S: Memory>(
     device: &mut Device<M, S>,
-    enrollment: Enrollment,
-    scan: Scan<'_>,
-    work: &mut [u8],
+    grant: Grant,
+    scan: GoodScan<'_, S>,
+    work: &mut [u8; LONGEST_TEMPLATE],
 ) -> Answers
-    requires { 384 ≤ length work.old }
-    ensures { went (view M.Matcher S.Memory device.new) result
-        ≡ pressed (view M.Matcher S.Memory device.old) (waiting_for device.old (grant_to_enroll enrollment))
-        (grant_to_enroll enrollment) scan.entry.bytes.now scan.entry.quality }
+    ensures { let s = view M.Matcher S.Memory device.old in (p next : Phase) → command_of p ≡ grant.command
+        → phase_of S.Memory.T device.old.first grant.next ≡ Some next
+        → went (view M.Matcher S.Memory device.new) result ≡ granted s (waiting_for device.old p) next
+        (found_by s (is_admin (permits grant.right) s.admins) scan.entry.bytes.now) }
 {
-    let command = enroll_command(enrollment.by);
-    match find_administrator(device, Right::Enroll, scan.bytes, work) {
-        Some((id, _)) => go_on(device, command, id, Awaited::FirstFinger(enrollment)),
+    let Grant {
+        right,
+        command,
+        next,
+    } = grant;
+    match find_administrator(device, right, scan.bytes, work) {
+        Some((id, _)) => {
+            let told = tell(device, command, u32::from(id), 0, Code::Continue);
+            go_on(device, command, Some(told), next)
+        }
         None => end(device, command, 0, 0, Code::NotMatch),
-    }
-}
-
-/// DSA: a good scan, compared with the templates of those who may let others delete.
-pub(crate) fn grant_to_delete<M: Matcher, S: Memory>(
-    device: &mut Device<M, S>,
-    range: IdRange,
-    scan: Scan<'_>,
-    work: &mut [u8],
-) -> Answers
-    requires { 384 ≤ length work.old }
-    ensures { went (view M.Matcher S.Memory device.new) result
-        ≡ pressed (view M.Matcher S.Memory device.old) (waiting_for device.old (grant_to_delete range))
-        (grant_to_delete range) scan.entry.bytes.now scan.entry.quality }
-{
-    match find_administrator(device, Right::Delete, scan.bytes, work) {
-        Some((id, _)) => go_on(
-            device,
-            Command::DeleteByAdministrator,
-            id,
-            Awaited::PersonToDelete(range),
-        ),
-        None => end(device, Command::DeleteByAdministrator, 0, 0, Code::NotMatch),
     }
 }

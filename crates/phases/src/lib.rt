@@ -3,6 +3,7 @@
 
 mod deciding;
 mod enrolling;
+mod good;
 mod grants;
 mod persons;
 mod scan;

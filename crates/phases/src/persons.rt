@@ -1,21 +1,22 @@
-ghost use Rattle.std.specs.Prelude.{◌≡◌, ℕ, ◌≤◌, length, Some, ◌==◌};
+ghost use Rattle.std.specs.Prelude.{◌≡◌, ◌==◌};
 ghost use Rattle.device.specs.View.{view, went};
-ghost use Rattle.machine.specs.State.Phase.{person_to_delete, person_to_identify, person_to_verify};
-ghost use Rattle.machine.specs.Waiting.{deleted, pressed};
-ghost use Rattle.phases.specs.Told.{waiting_for};
-ghost use Rattle.search.specs.declared.allowed.IdRange.{IdRange as Range};
+ghost use Rattle.machine.specs.Searches.{found_by, found_in};
+ghost use Rattle.machine.specs.State.{Phase, command_of};
+ghost use Rattle.machine.specs.State.Phase.{person_to_delete};
+ghost use Rattle.machine.specs.Waiting.{deleted};
+ghost use Rattle.phases.specs.Told.{recognized, waiting_for};
 
-use crate::scan::Scan;
+use crate::good::GoodScan;
 use crate::telling::end;
 use codes::{Code, Command};
-use device::{Answers, Device, delete_all_of};
+use device::{Answers, Device, LONGEST_TEMPLATE, delete_all_of};
 use matcher::Matcher;
 use memory::Memory;
 use search::{Allowed, IdRange};
 
 /// One ID.
-#[derive(Clone, Copy)]
-struct OneId(u16);
+#[derive(Clone, Copy, PartialEq, Eq, Debug)]
+pub(crate) struct OneId(pub(crate) u16);
 
 impl Allowed for OneId {
     ghost allowed = { λ s id. (id == s.0) };
@@ -25,96 +26,64 @@ impl Allowed for OneId {
     }
 }
 
-/// VS: a good scan, compared with the templates of the ID.
-pub(crate) fn verify<M: Matcher, S: Memory>(
+/// What a search for a person answers to: its command, and the code that says that nobody agrees.
+#[derive(Clone, Copy)]
+pub(crate) struct Question {
+    pub(crate) command: Command,
+    pub(crate) missed: Code,
+}
+
+impl Question {
+    /// VS.
+    pub(crate) const VERIFY: Question = Question {
+        command: Command::Verify,
+        missed: Code::NotMatch,
+    };
+
+    /// IS.
+    pub(crate) const IDENTIFY: Question = Question {
+        command: Command::Identify,
+        missed: Code::NotFound,
+    };
+}
+
+/// VS and IS: a good scan, compared with the templates of the IDs that are allowed.
+pub(crate) fn recognize<M: Matcher, S: Memory, A: Allowed>(
     device: &mut Device<M, S>,
-    id: u16,
-    scan: Scan<'_>,
-    work: &mut [u8],
+    question: Question,
+    allowed: &A,
+    scan: GoodScan<'_, S>,
+    work: &mut [u8; LONGEST_TEMPLATE],
 ) -> Answers
-    requires { 384 ≤ length work.old }
-    ensures { went (view M.Matcher S.Memory device.new) result
-        ≡ pressed (view M.Matcher S.Memory device.old) (waiting_for device.old (person_to_verify id)) (person_to_verify id)
-        scan.entry.bytes.now scan.entry.quality }
+    ensures { let s = view M.Matcher S.Memory device.old in (p : Phase) → command_of p ≡ question.command
+        → went (view M.Matcher S.Memory device.new) result ≡ recognized s (waiting_for device.old p) question.missed
+        (found_by s (A.Allowed.allowed allowed.now) scan.entry.bytes.now) }
 {
-    match device.find(&OneId(id), scan.bytes, work) {
-        Some((id, number)) => end(
-            device,
-            Command::Verify,
-            u32::from(id),
-            number,
-            Code::Success,
-        ),
-        None => end(device, Command::Verify, 0, 0, Code::NotMatch),
+    let Question { command, missed } = question;
+    match device.find(allowed, scan.bytes, work) {
+        Some((id, number)) => end(device, command, u32::from(id), number, Code::Success),
+        None => end(device, command, 0, 0, missed),
     }
 }
 
-/// IS: a good scan, compared with the templates of the IDs in the range.
-pub(crate) fn identify<M: Matcher, S: Memory>(
-    device: &mut Device<M, S>,
-    range: IdRange,
-    scan: Scan<'_>,
-    work: &mut [u8],
-) -> Answers
-    requires { 384 ≤ length work.old }
-    ensures { went (view M.Matcher S.Memory device.new) result
-        ≡ pressed (view M.Matcher S.Memory device.old) (waiting_for device.old (person_to_identify range)) (person_to_identify range)
-        scan.entry.bytes.now scan.entry.quality }
-{
-    match device.find(&range, scan.bytes, work) {
-        Some((id, number)) => end(
-            device,
-            Command::Identify,
-            u32::from(id),
-            number,
-            Code::Success,
-        ),
-        None => end(device, Command::Identify, 0, 0, Code::NotFound),
-    }
-}
-
-/// DSA, once the person is found: an administrator's templates stay.
-fn delete_found<M: Matcher, S: Memory>(device: &mut Device<M, S>, id: u16) -> Answers
-    ensures { (range : Range) (number : ℕ) → went (view M.Matcher S.Memory device.new) result
-        ≡ deleted (view M.Matcher S.Memory device.old) (waiting_for device.old (person_to_delete range))
-        (Some (id, number)) }
-{
-    match device.admins.level_of(id) {
-        Some(_) => end(
-            device,
-            Command::DeleteByAdministrator,
-            0,
-            0,
-            Code::Unsupported,
-        ),
-        None => {
-            delete_all_of(&mut device.memory, id);
-            device.admins.strike(id);
-            end(
-                device,
-                Command::DeleteByAdministrator,
-                u32::from(id),
-                0,
-                Code::Success,
-            )
-        }
-    }
-}
-
-/// DSA: a good scan of the person, after an administrator's.
+/// DSA: a good scan of the person, after an administrator's. An administrator's templates stay.
 pub(crate) fn delete<M: Matcher, S: Memory>(
     device: &mut Device<M, S>,
     range: IdRange,
-    scan: Scan<'_>,
-    work: &mut [u8],
+    scan: GoodScan<'_, S>,
+    work: &mut [u8; LONGEST_TEMPLATE],
 ) -> Answers
-    requires { 384 ≤ length work.old }
-    ensures { went (view M.Matcher S.Memory device.new) result
-        ≡ pressed (view M.Matcher S.Memory device.old) (waiting_for device.old (person_to_delete range)) (person_to_delete range)
-        scan.entry.bytes.now scan.entry.quality }
+    ensures { let s = view M.Matcher S.Memory device.old in went (view M.Matcher S.Memory device.new) result
+        ≡ deleted s (waiting_for device.old (person_to_delete range)) (found_in s range scan.entry.bytes.now) }
 {
-    match device.find(&range, scan.bytes, work) {
-        Some((id, _)) => delete_found(device, id),
-        None => end(device, Command::DeleteByAdministrator, 0, 0, Code::NotFound),
+    let command = Command::DeleteByAdministrator;
+    let Some((id, _)) = device.find(&range, scan.bytes, work) else {
+        return end(device, command, 0, 0, Code::NotFound);
+    };
+    if device.admins.level_of(id).is_some() {
+        return end(device, command, 0, 0, Code::Unsupported);
     }
+    delete_all_of(&mut device.memory, id);
+    device.admins.strike(id);
+    end(device, command, u32::from(id), 0, Code::Success)
 }

@@ -1,19 +1,17 @@
-use packet::Request;
-
 /// A scan of a finger, with its quality.
-#[derive(Clone, Copy)]
+#[derive(Clone, Copy, PartialEq, Eq, Debug)]
 pub struct Scan<'a> {
     pub bytes: &'a [u8],
     pub quality: u8,
 }
 
-/// What comes to a module.
-#[derive(Clone, Copy)]
-pub enum Event<'a> {
-    /// A request that the lock lets through.
-    Packet(Request<'a>),
+/// What comes to a module: a packet `P`, as it is read so far, a finger's scan `F`, or a second.
+#[derive(Clone, Copy, PartialEq, Eq, Debug)]
+pub enum Event<P, F> {
+    /// A packet.
+    Packet(P),
     /// A finger.
-    Finger(Scan<'a>),
+    Finger(F),
     /// A second has passed.
     Second,
 }

@@ -1,6 +1,8 @@
-use Rattle.std.specs.Prelude.{ℕ, ◌+◌, ◌-◌, ◌*◌, min, Bool, false, ◌&&◌, ◌||◌, List, [], ◌∷◌, map, length, count_by, nat_le, slice_index, slice_index_or}
-use Rattle.std.specs.List.{range_with_len}
+use Rattle.std.specs.Prelude.{ℕ, ◌+◌, ◌-◌, ◌*◌, min, Bool, ◌&&◌, List, [], ◌∷◌, map, length, drop, count_by, nat_le, slice_index, slice_index_or}
+use Rattle.std.specs.List.{list_any}
+use Rattle.std.specs.Simd.{first_chunks}
 use Rattle.point_matcher.specs.declared.point.Point.{Point}
+use Rattle.point_matcher.specs.declared.points.Points.{Points}
 
 -- the first byte says how many points there are
 abbrev pub point_count : List ℕ → ℕ
@@ -10,12 +12,17 @@ point_count bytes = slice_index bytes 0
 abbrev pub readable : List ℕ → Bool
 readable bytes = nat_le (point_count bytes) 80 && nat_le (1 + 3 * point_count bytes) (length bytes)
 
-abbrev pub point_at : List ℕ → ℕ → Point
-point_at bytes at = record { across = slice_index bytes (3 * at + 1); up = slice_index bytes (3 * at + 2); angle = slice_index bytes (3 * at + 3) }
+-- the point that three bytes say
+abbrev pub point_of : List ℕ → Point
+point_of triple = record { across = slice_index triple 0; up = slice_index triple 1; angle = slice_index triple 2 }
 
--- the points of some bytes, in order
+-- the points that were read
+abbrev pub points_in : Points → List Point
+points_in points = map point_of points.triples.now
+
+-- the points of some bytes, in order: three bytes each, behind the first byte
 abbrev pub points_of : List ℕ → List Point
-points_of bytes = map (point_at bytes) (range_with_len 0 (point_count bytes))
+points_of bytes = map point_of (first_chunks 3 (point_count bytes) (drop 1 bytes))
 
 abbrev pub distance : ℕ → ℕ → ℕ
 distance a b = (a - b) + (b - a)
@@ -32,8 +39,7 @@ near p q = nat_le (distance p.across q.across) 6 && nat_le (distance p.up q.up) 
 
 -- one of the points is near q
 abbrev pub near_some : List Point → Point → Bool
-near_some [] q = false
-near_some (p ∷ ps) q = near p q || near_some ps q
+near_some ps q = list_any (λ p. near p q) ps
 
 -- how many points of the scan lie near some stored point
 abbrev pub near_count : List ℕ → List ℕ → ℕ

@@ -3,7 +3,7 @@
 
 mod matching;
 mod point;
-mod template;
+mod points;
 
 pub use matching::PointMatcher;
 pub use point::marked_points;

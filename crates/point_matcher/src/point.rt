@@ -1,5 +1,5 @@
 ghost use Rattle.std.specs.Prelude.{◌≡◌, true, false};
-ghost use Rattle.point_matcher.specs.Points.{angles_near, near};
+ghost use Rattle.point_matcher.specs.Points.{angles_near, near, point_of};
 
 /// A point of a finger: its place, and its angle in parts of a circle of 256.
 #[derive(Clone, Copy)]
@@ -7,6 +7,14 @@ pub(crate) struct Point {
     pub(crate) across: u8,
     pub(crate) up: u8,
     pub(crate) angle: u8,
+}
+
+impl From<[u8; 3]> for Point {
+    ghost from_gives = { λ triple point. point ≡ point_of triple };
+
+    fn from([across, up, angle]: [u8; 3]) -> Point {
+        Point { across, up, angle }
+    }
 }
 
 /// Whether the shorter way round the circle is short: a byte wraps where the circle closes.

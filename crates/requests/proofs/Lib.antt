@@ -1,2 +1,5 @@
 pub mod Blocks
+pub mod Ended
 pub mod Enrolled
+pub mod Sums
+pub mod Tested

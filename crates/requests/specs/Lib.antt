@@ -1,3 +1,7 @@
 pub mod Blocks
 pub mod Enrolling
-pub mod Wanting
+pub mod Fields
+pub mod Ending
+pub mod Levels
+pub mod Passwords
+pub mod Sizes

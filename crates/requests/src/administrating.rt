@@ -1,110 +1,91 @@
 ghost use Rattle.std.specs.Prelude.{◌≡◌};
+ghost use Rattle.codes.specs.declared.command.Command.TheVariants.{DeleteAll, DeleteByAdministrator};
 ghost use Rattle.device.specs.View.{view, went};
-ghost use Rattle.machine.specs.Requests.{delete, level_in, levelled, write_level};
-ghost use Rattle.machine.specs.Requests.Wanted.{no_level, wanted};
+ghost use Rattle.machine.specs.Requests.{delete, known, level_in, write_level};
 ghost use Rattle.packet.specs.Requests.{request_parts};
-ghost use Rattle.requests.specs.Wanting.{seen_wanted};
+ghost use Rattle.requests.specs.Ending.{KeptOnErr, Obeys};
+ghost use Rattle.requests.specs.Levels.{level_or_fault};
 
 use crate::answer::just;
-use crate::ids::id_in;
+use crate::fields::{held_id, range_in};
+use administrators::Right;
 use codes::Code;
-use device::{Answers, Device, delete_all_of};
+use device::{Answers, Awaited, Device, delete_all_of};
 use machine::Level;
 use matcher::Matcher;
 use memory::Memory;
 use packet::Request;
-use search::count_of;
 
 /// DT: the templates go, and with the last of them the administrator's row.
 pub(crate) fn delete<M: Matcher, S: Memory>(
     device: &mut Device<M, S>,
     request: Request<'_>,
-) -> Answers
-    ensures { went (view M.Matcher S.Memory device.new) result
-        ≡ delete (view M.Matcher S.Memory device.old) (request_parts request.entry) }
+) -> Result<Answers, Code>
+    ensures value { Obeys M.Matcher S.Memory delete device.old device.new request.entry result }
+    ensures kept { KeptOnErr M.Matcher S.Memory device.old device.new result }
 {
-    let Some(id) = id_in(request.param) else {
-        return just(request, Code::InvalidId);
-    };
-    if count_of(&device.memory, id) == 0 {
-        return just(request, Code::NotFound);
-    }
+    let id = held_id(device, request.param)?;
     delete_all_of(&mut device.memory, id);
     device.admins.strike(id);
+    Ok(just(request, Code::Success))
+}
+
+/// DA: with the templates go all administrators' rows.
+pub(crate) fn delete_all<M: Matcher, S: Memory>(
+    device: &mut Device<M, S>,
+    request: Request<'_>,
+) -> Answers
+    ensures { went (view M.Matcher S.Memory device.new) result
+        ≡ known (view M.Matcher S.Memory device.old) (request_parts request.entry) DeleteAll }
+{
+    device.memory.clear();
+    device.admins.clear();
     just(request, Code::Success)
 }
 
-/// What the flag of AW wants: a level, or none any more.
-#[derive(Clone, Copy)]
-pub(crate) enum Wanted {
-    NoLevel,
-    Level(Level),
+/// DSA.
+pub(crate) fn delete_by_administrator<M: Matcher, S: Memory>(
+    device: &mut Device<M, S>,
+    request: Request<'_>,
+) -> Result<Answers, Code>
+    ensures value { Obeys M.Matcher S.Memory (λ s q. known s q DeleteByAdministrator)
+        device.old device.new request.entry result }
+    ensures kept { KeptOnErr M.Matcher S.Memory device.old device.new result }
+{
+    let range = range_in(request.param)?;
+    if !device.admins.any_may(Right::Delete) {
+        return Err(Code::Unsupported);
+    }
+    device.wait_for(Awaited::GrantToDelete(range), request.form);
+    Ok(Answers::Nothing)
 }
 
-/// The level in a flag.
-fn level_in(flag: u8) -> Option<Wanted>
-    ensures { seen_wanted result ≡ level_in flag }
+/// The level in a flag; none for 0.
+fn level_in(flag: u8) -> Result<Option<Level>, Code>
+    ensures { result ≡ level_or_fault (level_in flag) }
 {
     match flag {
-        0 => Some(Wanted::NoLevel),
-        1 => Some(Wanted::Level(Level::Enroll)),
-        2 => Some(Wanted::Level(Level::Delete)),
-        3 => Some(Wanted::Level(Level::All)),
-        _ => None,
+        0 => Ok(None),
+        number => Ok(Some(Level::try_from(number)?)),
     }
 }
 
-/// AW with a level: where all sixteen rows are taken by others, there is none for the ID.
-fn give_level<M: Matcher, S: Memory>(
-    device: &mut Device<M, S>,
-    request: Request<'_>,
-    id: u16,
-    level: Level,
-) -> Answers
-    requires { id ≡ request.param }
-    ensures { went (view M.Matcher S.Memory device.new) result
-        ≡ levelled (view M.Matcher S.Memory device.old) (request_parts request.entry) (wanted level) }
-{
-    if device.admins.write(id, level) {
-        just(request, Code::Success)
-    } else {
-        just(request, Code::MemFull)
-    }
-}
-
-/// AW with level 0.
-fn take_level<M: Matcher, S: Memory>(
-    device: &mut Device<M, S>,
-    request: Request<'_>,
-    id: u16,
-) -> Answers
-    requires { id ≡ request.param }
-    ensures { went (view M.Matcher S.Memory device.new) result
-        ≡ levelled (view M.Matcher S.Memory device.old) (request_parts request.entry) no_level }
-{
-    device.admins.strike(id);
-    just(request, Code::Success)
-}
-
-/// AW.
+/// AW. Where all sixteen rows are taken by others, there is none for the ID.
 pub(crate) fn write_level<M: Matcher, S: Memory>(
     device: &mut Device<M, S>,
     request: Request<'_>,
-) -> Answers
-    ensures { went (view M.Matcher S.Memory device.new) result
-        ≡ write_level (view M.Matcher S.Memory device.old) (request_parts request.entry) }
+) -> Result<Answers, Code>
+    ensures value { Obeys M.Matcher S.Memory write_level device.old device.new request.entry result }
+    ensures kept { KeptOnErr M.Matcher S.Memory device.old device.new result }
 {
-    let Some(wanted) = level_in(request.flag) else {
-        return just(request, Code::Unsupported);
+    let level = level_in(request.flag)?;
+    let id = held_id(device, request.param)?;
+    let Some(level) = level else {
+        device.admins.strike(id);
+        return Ok(just(request, Code::Success));
     };
-    let Some(id) = id_in(request.param) else {
-        return just(request, Code::InvalidId);
-    };
-    if count_of(&device.memory, id) == 0 {
-        return just(request, Code::NotFound);
+    if !device.admins.write(id, level) {
+        return Err(Code::MemFull);
     }
-    match wanted {
-        Wanted::NoLevel => take_level(device, request, id),
-        Wanted::Level(level) => give_level(device, request, id, level),
-    }
+    Ok(just(request, Code::Success))
 }

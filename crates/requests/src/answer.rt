@@ -8,7 +8,10 @@ use packet::Request;
 
 /// One outcome.
 pub(crate) fn answer(request: Request<'_>, param: u32, size: u32, code: Code) -> Answers
-    ensures { result ≡ One (record { to = request.entry.form; outcome = outcome request.entry.command param size code }) }
+    ensures { result ≡ One (record {
+      to = request.entry.form;
+      outcome = outcome request.entry.command param size code;
+    }) }
 {
     Answers::One(Told::own(request, param, size, code))
 }

@@ -4,7 +4,7 @@
 mod administrating;
 mod answer;
 mod enrolling;
-mod ids;
+mod fields;
 mod parameters;
 mod passwords;
 mod reading;

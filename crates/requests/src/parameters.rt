@@ -1,10 +1,11 @@
 ghost use Rattle.std.specs.Prelude.{◌≡◌};
-ghost use Rattle.device.specs.View.{view, went};
+ghost use Rattle.device.specs.View.{view};
 ghost use Rattle.machine.specs.Requests.{parameter_value, read_parameter, write_parameter};
-ghost use Rattle.packet.specs.Requests.{request_parts};
+ghost use Rattle.requests.specs.Ending.{KeptOnErr, Obeys};
 
 use crate::answer::{answer, just};
-use codes::{Code, Numbered, Parameter};
+use crate::fields::flag_in;
+use codes::{Code, Parameter};
 use device::{Answers, Device};
 use machine::Setting;
 use matcher::Matcher;
@@ -15,18 +16,14 @@ use packet::Request;
 pub(crate) fn write_parameter<M: Matcher, S: Memory>(
     device: &mut Device<M, S>,
     request: Request<'_>,
-) -> Answers
-    ensures { went (view M.Matcher S.Memory device.new) result
-        ≡ write_parameter (view M.Matcher S.Memory device.old) (request_parts request.entry) }
+) -> Result<Answers, Code>
+    ensures value { Obeys M.Matcher S.Memory write_parameter device.old device.new request.entry result }
+    ensures kept { KeptOnErr M.Matcher S.Memory device.old device.new result }
 {
-    let Some(parameter) = Parameter::numbered(request.flag) else {
-        return just(request, Code::Unsupported);
-    };
-    let Some(setting) = Setting::of(parameter, request.size) else {
-        return just(request, Code::Unsupported);
-    };
+    let parameter = flag_in::<Parameter>(request.flag)?;
+    let setting = Setting::of(parameter, request.size).ok_or(Code::Unsupported)?;
     device.settings.set(setting);
-    just(request, Code::Success)
+    Ok(just(request, Code::Success))
 }
 
 /// The value of a parameter.
@@ -35,9 +32,9 @@ fn value_of<M: Matcher, S: Memory>(device: &Device<M, S>, parameter: Parameter) 
 {
     match parameter {
         Parameter::Timeout => 0x30 + u32::from(device.settings.timeout),
-        Parameter::TemplateSize => S::template_size() as u32,
+        Parameter::TemplateSize => S::T as u32,
         Parameter::EnrollMode => device.settings.enroll as u32,
-        Parameter::SecurityLevel => u32::from(device.settings.security.number()),
+        Parameter::SecurityLevel => u32::from(u8::from(device.settings.security)),
         Parameter::ModuleId => u32::from(device.own),
         Parameter::EnrolledFinger => device.memory.count() as u32,
         Parameter::AvailableFinger => (device.memory.capacity() - device.memory.count()) as u32,
@@ -50,12 +47,10 @@ fn value_of<M: Matcher, S: Memory>(device: &Device<M, S>, parameter: Parameter) 
 pub(crate) fn read_parameter<M: Matcher, S: Memory>(
     device: &Device<M, S>,
     request: Request<'_>,
-) -> Answers
-    ensures { went (view M.Matcher S.Memory device.now) result
-        ≡ read_parameter (view M.Matcher S.Memory device.now) (request_parts request.entry) }
+) -> Result<Answers, Code>
+    ensures { Obeys M.Matcher S.Memory read_parameter device.now device.now request.entry result }
 {
-    let Some(parameter) = Parameter::numbered(request.flag) else {
-        return just(request, Code::Unsupported);
-    };
-    answer(request, 0, value_of(device, parameter), Code::Success)
+    let parameter = flag_in::<Parameter>(request.flag)?;
+    let value = value_of(device, parameter);
+    Ok(answer(request, 0, value, Code::Success))
 }

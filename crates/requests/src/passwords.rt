@@ -1,8 +1,11 @@
-ghost use Rattle.std.specs.Prelude.{◌≡◌, ◌+◌, ◌≤◌, length};
+ghost use Rattle.std.specs.Prelude.{◌≡◌};
+ghost use Rattle.codes.specs.declared.command.Command.TheVariants.{Lock};
 ghost use Rattle.device.specs.View.{view, went};
-ghost use Rattle.machine.specs.Requests.{change_password, password_at, sum_right, unlock};
+ghost use Rattle.machine.specs.Requests.{change_password, known, unlock};
 ghost use Rattle.packet.specs.Requests.{request_parts};
-ghost use Rattle.std.specs.Str.{bytes_eq};
+ghost use Rattle.requests.specs.Ending.{KeptOnErr, Obeys};
+ghost use Rattle.requests.specs.Passwords.{password_in};
+ghost use Rattle.requests.specs.Sizes.{sized};
 
 use crate::answer::just;
 use codes::Code;
@@ -11,52 +14,47 @@ use matcher::Matcher;
 use memory::Memory;
 use packet::{PASSWORD_LENGTH, Request, password_sum};
 
-/// A password in a request's data: its place.
-fn password_at(data: &[u8], at: usize) -> [u8; PASSWORD_LENGTH]
-    requires { at + 18 ≤ length «data».now }
-    ensures { result ≡ password_at at «data».now }
-{
-    let mut password = [0; PASSWORD_LENGTH];
-    password.copy_from_slice(&data[at..at + PASSWORD_LENGTH]);
-    password
-}
+/// The bytes of a password and of its sum.
+const SUMMED_LENGTH: usize = PASSWORD_LENGTH + 2;
 
-/// Whether the two bytes behind a password are its sum.
-fn sum_right(data: &[u8], at: usize) -> bool
-    requires { at + 18 ≤ length «data».now }
-    ensures { result ≡ sum_right at «data».now }
+/// A password, which its sum stands behind.
+fn password_in(data: &[u8]) -> Result<[u8; PASSWORD_LENGTH], Code>
+    ensures { result ≡ password_in «data».now }
 {
-    let sum = u16::from_le_bytes([data[at + PASSWORD_LENGTH], data[at + PASSWORD_LENGTH + 1]]);
-    sum == password_sum(&password_at(data, at))
-}
-
-/// Whether the first password in a request's data is the module's.
-fn is_own(data: &[u8], own: &[u8]) -> bool
-    requires { 18 ≤ length «data».now }
-    ensures { result ≡ bytes_eq (password_at 0 «data».now) own.now }
-{
-    &data[0..PASSWORD_LENGTH] == own
+    let Some((password, [low, high])) = data.split_first_chunk::<PASSWORD_LENGTH>() else {
+        return Err(Code::Unsupported);
+    };
+    if u16::from_le_bytes([*low, *high]) != password_sum(password) {
+        return Err(Code::TryAgain);
+    }
+    Ok(*password)
 }
 
 /// UM: a password and its sum.
 pub(crate) fn unlock<M: Matcher, S: Memory>(
     device: &mut Device<M, S>,
     request: Request<'_>,
-) -> Answers
-    requires { length request.«data».now ≡ request.size }
-    ensures { went (view M.Matcher S.Memory device.new) result
-        ≡ unlock (view M.Matcher S.Memory device.old) (request_parts request.entry) }
+) -> Result<Answers, Code>
+    ensures value { Obeys M.Matcher S.Memory (λ s q. unlock s (sized q))
+        device.old device.new request.entry result }
+    ensures kept { KeptOnErr M.Matcher S.Memory device.old device.new result }
 {
-    if request.size != 18 {
-        return just(request, Code::Unsupported);
-    }
-    if !sum_right(request.data, 0) {
-        return just(request, Code::TryAgain);
-    }
-    if !is_own(request.data, &device.password) {
-        return just(request, Code::NotMatch);
+    if password_in(request.data)? != device.password {
+        return Err(Code::NotMatch);
     }
     device.locked = false;
+    Ok(just(request, Code::Success))
+}
+
+/// LM.
+pub(crate) fn lock<M: Matcher, S: Memory>(
+    device: &mut Device<M, S>,
+    request: Request<'_>,
+) -> Answers
+    ensures { went (view M.Matcher S.Memory device.new) result
+        ≡ known (view M.Matcher S.Memory device.old) (request_parts request.entry) Lock }
+{
+    device.locked = true;
     just(request, Code::Success)
 }
 
@@ -64,20 +62,20 @@ pub(crate) fn unlock<M: Matcher, S: Memory>(
 pub(crate) fn change_password<M: Matcher, S: Memory>(
     device: &mut Device<M, S>,
     request: Request<'_>,
-) -> Answers
-    requires { length request.«data».now ≡ request.size }
-    ensures { went (view M.Matcher S.Memory device.new) result
-        ≡ change_password (view M.Matcher S.Memory device.old) (request_parts request.entry) }
+) -> Result<Answers, Code>
+    ensures value { Obeys M.Matcher S.Memory (λ s q. change_password s (sized q))
+        device.old device.new request.entry result }
+    ensures kept { KeptOnErr M.Matcher S.Memory device.old device.new result }
 {
-    if request.size != 36 {
-        return just(request, Code::Unsupported);
+    if request.data.len() != 2 * SUMMED_LENGTH {
+        return Err(Code::Unsupported);
     }
-    if !(sum_right(request.data, 0) && sum_right(request.data, 18)) {
-        return just(request, Code::TryAgain);
+    let (own, new) = request.data.split_at(SUMMED_LENGTH);
+    let own = password_in(own)?;
+    let new = password_in(new)?;
+    if own != device.password {
+        return Err(Code::NotMatch);
     }
-    if !is_own(request.data, &device.password) {
-        return just(request, Code::NotMatch);
-    }
-    device.password = password_at(request.data, 18);
-    just(request, Code::Success)
+    device.password = new;
+    Ok(just(request, Code::Success))
 }

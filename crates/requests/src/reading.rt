@@ -1,53 +1,58 @@
 ghost use Rattle.std.specs.Prelude.{◌≡◌};
+ghost use Rattle.codes.specs.declared.command.Command.TheVariants.{Identify};
 ghost use Rattle.device.specs.View.{view, went};
 ghost use Rattle.machine.specs.Answers.{go};
-ghost use Rattle.machine.specs.Requests.{list, read_template, verify};
+ghost use Rattle.machine.specs.Requests.{known, list, read_template, verify};
 ghost use Rattle.packet.specs.Requests.{request_parts};
 ghost use Rattle.requests.specs.Blocks.{answer_ids, block_of};
+ghost use Rattle.requests.specs.Ending.{KeptOnErr, Obeys};
 
-use crate::answer::just;
-use crate::ids::id_in;
+use crate::fields::{held_id, id_in, range_in};
 use codes::Code;
 use device::{Answers, Awaited, Data, Device, Told};
 use matcher::Matcher;
 use memory::Memory;
 use packet::Request;
-use search::{count_of, place_of};
+use search::place_of;
 
 /// VS.
 pub(crate) fn verify<M: Matcher, S: Memory>(
     device: &mut Device<M, S>,
     request: Request<'_>,
-) -> Answers
-    ensures { went (view M.Matcher S.Memory device.new) result
-        ≡ verify (view M.Matcher S.Memory device.old) (request_parts request.entry) }
+) -> Result<Answers, Code>
+    ensures value { Obeys M.Matcher S.Memory verify device.old device.new request.entry result }
+    ensures kept { KeptOnErr M.Matcher S.Memory device.old device.new result }
 {
-    let Some(id) = id_in(request.param) else {
-        return just(request, Code::InvalidId);
-    };
-    if count_of(&device.memory, id) == 0 {
-        return just(request, Code::NotFound);
-    }
+    let id = held_id(device, request.param)?;
     device.wait_for(Awaited::PersonToVerify(id), request.form);
-    Answers::Nothing
+    Ok(Answers::Nothing)
+}
+
+/// IS.
+pub(crate) fn identify<M: Matcher, S: Memory>(
+    device: &mut Device<M, S>,
+    request: Request<'_>,
+) -> Result<Answers, Code>
+    ensures value { Obeys M.Matcher S.Memory (λ s q. known s q Identify)
+        device.old device.new request.entry result }
+    ensures kept { KeptOnErr M.Matcher S.Memory device.old device.new result }
+{
+    let range = range_in(request.param)?;
+    device.wait_for(Awaited::PersonToIdentify(range), request.form);
+    Ok(Answers::Nothing)
 }
 
 /// RT: the template's number is in Size.
 pub(crate) fn read_template<M: Matcher, S: Memory>(
     device: &Device<M, S>,
     request: Request<'_>,
-) -> Answers
-    ensures { went (view M.Matcher S.Memory device.now) result
-        ≡ read_template (view M.Matcher S.Memory device.now) (request_parts request.entry) }
+) -> Result<Answers, Code>
+    ensures { Obeys M.Matcher S.Memory read_template device.now device.now request.entry result }
 {
-    let Some(id) = id_in(request.param) else {
-        return just(request, Code::InvalidId);
-    };
-    let Some(place) = place_of(&device.memory, id, request.size) else {
-        return just(request, Code::NotFound);
-    };
-    let told = Told::own(request, 0, S::template_size() as u32, Code::Success);
-    Answers::WithData(told, Data::Template { place })
+    let id = id_in(request.param)?;
+    let place = place_of(&device.memory, id, request.size).ok_or(Code::NotFound)?;
+    let told = Told::own(request, 0, S::T as u32, Code::Success);
+    Ok(Answers::WithData(told, Data::Template { place }))
 }
 
 /// The IDs of at most `most` templates from a place on, one for each.
@@ -67,18 +72,20 @@ fn list_block<M: Matcher, S: Memory>(
 }
 
 /// LT: the block's index is in Param, its size in Size; size 0 lists all.
-pub(crate) fn list<M: Matcher, S: Memory>(device: &Device<M, S>, request: Request<'_>) -> Answers
-    ensures { went (view M.Matcher S.Memory device.now) result
-        ≡ list (view M.Matcher S.Memory device.now) (request_parts request.entry) }
+pub(crate) fn list<M: Matcher, S: Memory>(
+    device: &Device<M, S>,
+    request: Request<'_>,
+) -> Result<Answers, Code>
+    ensures { Obeys M.Matcher S.Memory list device.now device.now request.entry result }
 {
     let count = device.memory.count();
     if request.size == 0 {
-        return list_block(device, request, 0, count);
+        return Ok(list_block(device, request, 0, count));
     }
     // The product may pass 32 bits.
     let from = u64::from(request.param) * u64::from(request.size);
     if from >= count as u64 {
-        return just(request, Code::InvalidId);
+        return Err(Code::InvalidId);
     }
-    list_block(device, request, from as usize, request.size as usize)
+    Ok(list_block(device, request, from as usize, request.size as usize))
 }

@@ -1,106 +1,63 @@
-ghost use Rattle.std.specs.Prelude.{◌≡◌, ◌≤◌, true, cond, length, Ok, Err, OnErr, nat_lt};
-ghost use Rattle.codes.specs.declared.command.Command.TheVariants.{DeleteAll, DeleteByAdministrator, Identify, Lock};
-ghost use Rattle.codes.specs.declared.numbered.Coded.TheVariants.{Known};
+ghost use Rattle.std.specs.Prelude.{◌≡◌, true, cond, length, Ok, Err, OnErr, nat_lt};
 ghost use Rattle.codes.specs.declared.refusal.Refusal.TheVariants.{DataLength, WorkBuffer};
-ghost use Rattle.device.specs.View.{tried, view, went};
-ghost use Rattle.machine.specs.Requests.{known, started};
-ghost use Rattle.packet.specs.Data.{asks_with_data};
+ghost use Rattle.device.specs.View.{tried, view};
+ghost use Rattle.machine.specs.Requests.{started};
 ghost use Rattle.packet.specs.Requests.{has_data, request_parts};
+ghost use Rattle.requests.specs.Ending.{KeptOnErr, Obeys};
 
-use crate::administrating::{delete, write_level};
+use crate::administrating::{delete, delete_all, delete_by_administrator, write_level};
 use crate::answer::just;
-use crate::enrolling::{enroll, enroll_by_administrator, enroll_template};
-use crate::ids::range_in;
+use crate::enrolling::{enroll, enroll_template};
 use crate::parameters::{read_parameter, write_parameter};
-use crate::passwords::{change_password, unlock};
-use crate::reading::{list, read_template, verify};
-use administrators::Right;
+use crate::passwords::{change_password, lock, unlock};
+use crate::reading::{identify, list, read_template, verify};
 use codes::{Code, Coded, Command, Refusal};
-use device::{Answers, Awaited, Device, LONGEST_TEMPLATE};
+use device::{Answers, Device, LONGEST_TEMPLATE};
+use machine::Enroller;
 use matcher::Matcher;
 use memory::Memory;
 use packet::{Request, asks_with_data};
 
-/// IS.
-fn identify<M: Matcher, S: Memory>(device: &mut Device<M, S>, request: Request<'_>) -> Answers
-    ensures { went (view M.Matcher S.Memory device.new) result
-        ≡ known (view M.Matcher S.Memory device.old) (request_parts request.entry) Identify }
-{
-    let Some(range) = range_in(request.param) else {
-        return just(request, Code::InvalidId);
-    };
-    device.wait_for(Awaited::PersonToIdentify(range), request.form);
-    Answers::Nothing
-}
-
-/// DSA.
-fn delete_by_administrator<M: Matcher, S: Memory>(
-    device: &mut Device<M, S>,
-    request: Request<'_>,
-) -> Answers
-    ensures { went (view M.Matcher S.Memory device.new) result
-        ≡ known (view M.Matcher S.Memory device.old) (request_parts request.entry) DeleteByAdministrator }
-{
-    let Some(range) = range_in(request.param) else {
-        return just(request, Code::InvalidId);
-    };
-    if !device.admins.any_may(Right::Delete) {
-        return just(request, Code::Unsupported);
-    }
-    device.wait_for(Awaited::GrantToDelete(range), request.form);
-    Answers::Nothing
-}
-
-/// DA: with the templates go all administrators' rows.
-fn delete_all<M: Matcher, S: Memory>(device: &mut Device<M, S>, request: Request<'_>) -> Answers
-    ensures { went (view M.Matcher S.Memory device.new) result
-        ≡ known (view M.Matcher S.Memory device.old) (request_parts request.entry) DeleteAll }
-{
-    device.memory.clear();
-    device.admins.clear();
-    just(request, Code::Success)
-}
-
-/// LM.
-fn lock<M: Matcher, S: Memory>(device: &mut Device<M, S>, request: Request<'_>) -> Answers
-    ensures { went (view M.Matcher S.Memory device.new) result
-        ≡ known (view M.Matcher S.Memory device.old) (request_parts request.entry) Lock }
-{
-    device.locked = true;
-    just(request, Code::Success)
-}
-
-/// What each command does; the data of those that carry any is as long as Size says.
+/// What each command does.
 fn carry_out<M: Matcher, S: Memory>(
     device: &mut Device<M, S>,
     request: Request<'_>,
-    command: Command,
-    work: &mut [u8],
-) -> Answers
-    requires work_long { 384 ≤ length work.old }
-    requires whole { asks_with_data (Known command) ≡ true → length request.«data».now ≡ request.size }
-    ensures { went (view M.Matcher S.Memory device.new) result
-        ≡ known (view M.Matcher S.Memory device.old) (request_parts request.entry) command }
+    work: &mut [u8; LONGEST_TEMPLATE],
+) -> Result<Answers, Code>
+    requires { has_data (request_parts request) ≡ true }
+    ensures value { Obeys M.Matcher S.Memory (λ s q. started s q q.command)
+        device.old device.new request.entry result }
+    ensures kept { KeptOnErr M.Matcher S.Memory device.old device.new result }
 {
+    let Coded::Known(command) = request.command else {
+        return Err(Code::Unsupported);
+    };
     match command {
         Command::WriteParameter => write_parameter(device, request),
         Command::ReadParameter => read_parameter(device, request),
-        Command::Enroll => enroll(device, request),
+        Command::Enroll => enroll(device, request, Enroller::Host),
         Command::EnrollTemplate => enroll_template(device, request, work),
         Command::Verify => verify(device, request),
         Command::Identify => identify(device, request),
         Command::ReadTemplate => read_template(device, request),
         Command::Delete => delete(device, request),
-        Command::DeleteAll => delete_all(device, request),
+        Command::DeleteAll => Ok(delete_all(device, request)),
         Command::ListTemplates => list(device, request),
-        Command::Cancel => just(request, Code::NotFound),
+        Command::Cancel => Err(Code::NotFound),
         Command::WriteLevel => write_level(device, request),
-        Command::EnrollByAdministrator => enroll_by_administrator(device, request),
+        Command::EnrollByAdministrator => enroll(device, request, Enroller::Administrator),
         Command::DeleteByAdministrator => delete_by_administrator(device, request),
         Command::Unlock => unlock(device, request),
-        Command::Lock => lock(device, request),
+        Command::Lock => Ok(lock(device, request)),
         Command::ChangePassword => change_password(device, request),
     }
+}
+
+/// Whether a request whose command carries data has as much as its Size says.
+fn has_data(request: Request<'_>) -> bool
+    ensures { result ≡ has_data (request_parts request.entry) }
+{
+    !asks_with_data(request.command) || request.data.len() == request.size as usize
 }
 
 /// A request to a module that is not busy with another. Templates are compared in `work`, which is the
@@ -118,14 +75,14 @@ pub fn start<M: Matcher, S: Memory>(
         (Err DataLength)) }
     ensures refused { OnErr result (view M.Matcher S.Memory device.new ≡ view M.Matcher S.Memory device.old) }
 {
-    if work.len() < LONGEST_TEMPLATE {
+    let Some(work) = work.first_chunk_mut::<LONGEST_TEMPLATE>() else {
         return Err(Refusal::WorkBuffer);
-    }
-    if asks_with_data(request.command) && request.data.len() != request.size as usize {
+    };
+    if !has_data(request) {
         return Err(Refusal::DataLength);
     }
-    match request.command {
-        Coded::Known(command) => Ok(carry_out(device, request, command, work)),
-        Coded::Unknown(_) => Ok(just(request, Code::Unsupported)),
+    match carry_out(device, request, work) {
+        Ok(answers) => Ok(answers),
+        Err(code) => Ok(just(request, code)),
     }
 }

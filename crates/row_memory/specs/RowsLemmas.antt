@@ -12,18 +12,18 @@ use Rattle.std.proofs.lemmas.Bool.{cases_lt}
 use Rattle.memory.specs.Held.{Held, Sound, none}
 use Rattle.row_memory.specs.Rows.{capacity_of, row_at, held_in, rows_in, AllSound, row_of, written, closed}
 
-pub rows-length : (bs : List ℕ) (n : ℕ) → length (rows_in bs n) ≡ n
-rows-length bs n = length-map-range_with_len (λ k. held_in (row_at bs k)) 0 n
+pub rows_length : (bs : List ℕ) (n : ℕ) → length (rows_in bs n) ≡ n
+rows_length bs n = length-map-range_with_len (λ k. held_in (row_at bs k)) 0 n
 
 pub row-there : (bs : List ℕ) (n k : ℕ) (d : Held) → k < n → slice_index_or (rows_in bs n) k d ≡ held_in (row_at bs k)
 row-there bs n k d h = get_or-map-range_with_len (λ k. held_in (row_at bs k)) 0 n k k d h (omega arith)
 
 -- the counted rows are sound, one by one and all together
 pub all_sound : (bs : List ℕ) (n : ℕ) → AllSound bs n → AllByRecursion (Sound 384) (rows_in bs n)
-all_sound bs n sound = let m = rows-length bs n in All-from_get_or (Sound 384) (rows_in bs n) none (λ k l. sound k (omega arith))
+all_sound bs n sound = let m = rows_length bs n in All-from_get_or (Sound 384) (rows_in bs n) none (λ k l. sound k (omega arith))
 
 each-sound : (bs : List ℕ) (n : ℕ) → AllByRecursion (Sound 384) (rows_in bs n) → AllSound bs n
-each-sound bs n all k l = let m = rows-length bs n in All-get_or (Sound 384) (rows_in bs n) k none (omega arith) all
+each-sound bs n all k l = let m = rows_length bs n in All-get_or (Sound 384) (rows_in bs n) k none (omega arith) all
 
 same-capacity : (cs bs : List ℕ) → length cs ≡ length bs → capacity_of cs ≡ capacity_of bs
 same-capacity cs bs e = ap (λ l. min 500 (l / 386)) e
@@ -79,8 +79,8 @@ module _ (bs : List ℕ) (n id : ℕ) (t : List ℕ) (room : n < capacity_of bs)
 
   rows_before : rows_in added n ≡ rows_in bs n
   rows_before =
-      let a = rows-length added n in
-      same_lists (rows_in added n) (rows_in bs n) (a ∙ sym (rows-length bs n))
+      let a = rows_length added n in
+      same_lists (rows_in added n) (rows_in bs n) (a ∙ sym (rows_length bs n))
       (λ k d l. let l' : k < n = omega arith in row-there added n k d l' ∙ ap held_in (row_before k l') ∙ sym (row-there bs n k d l'))
 
   rows-added : rows_in added (n + 1) ≡ rows_in bs n ++ (record { id = id; template = t }) ∷ []
@@ -120,8 +120,8 @@ module _ (bs : List ℕ) (n p : ℕ) (fits : n ≤ capacity_of bs) (inside : p <
 
   rows-moved : rows_in moved (n - 1) ≡ remove (rows_in bs n) p
   rows-moved =
-      let a = rows-length moved (n - 1) in
-      let b = rows-length bs n in
+      let a = rows_length moved (n - 1) in
+      let b = rows_length bs n in
       let there : p < length (rows_in bs n) = omega arith in
       same_lists _ _ (omega (arith, length-remove (rows_in bs n) p there))
       (λ k d l. let l' : k < n - 1 = omega arith in row-there moved (n - 1) k d l' ∙ ⊎_elim

@@ -4,7 +4,7 @@
 ghost use Rattle.std.specs.Prelude.{◌≡◌, ℕ, ◌≤◌, List, [], length};
 ghost use Rattle.row_memory.specs.Rows.{AllSound, capacity_of, rows_in};
 ghost use Rattle.std.proofs.Common.{arith, rules};
-ghost use Rattle.row_memory.specs.RowsLemmas.{rows-length, all_sound};
+ghost use Rattle.row_memory.specs.RowsLemmas.{rows_length, all_sound};
 
 use memory::{Memory, NotAdded};
 
@@ -32,24 +32,21 @@ impl RowMemory {
     }
 }
 
+#[tactic(auto, using(crate::specs::RowsLemmas::rows_length))]
 impl Memory for RowMemory {
     const T: usize = 384;
 
-    ghost size = { 384 };
+    ghost T = { 384 };
 
     ghost held = { λ s. rows_in s.bytes.items s.count };
 
     ghost room = { λ s. capacity_of s.bytes.items };
 
-    ghost sized = { first_of (Prim.search rules, Prim.grind (arith, Self.row.coded.inj)) };
+    ghost sized = { Prim.search rules };
 
-    ghost within = { λ s. let n = rows-length s.bytes.items s.count in (omega arith, omega arith) };
+    ghost within = { λ s. let n = rows_length s.bytes.items s.count in (omega arith, omega arith) };
 
     ghost sound = { λ s. all_sound s.bytes.items s.count s.sound };
-
-    fn template_size() -> usize {
-        Self::T
-    }
 
     fn capacity(&self) -> usize {
         (self.bytes.len() / chip::ROW).min(MOST_ROWS)
@@ -60,20 +57,15 @@ impl Memory for RowMemory {
     }
 
     fn id_at(&self, place: usize) -> Option<u16> {
-        if place < self.count {
-            Some(chip::read_id(&self.bytes, place))
-        } else {
-            None
-        }
+        (place < self.count).then(|| chip::read_id(&self.bytes, place))
     }
 
     fn copy_at(&self, place: usize, into: &mut [u8]) -> Option<usize> {
-        if place < self.count && into.len() >= Self::T {
-            chip::read_template(&self.bytes, place, into);
-            Some(Self::T)
-        } else {
-            None
+        if place >= self.count || into.len() < Self::T {
+            return None;
         }
+        chip::read_template(&self.bytes, place, into);
+        Some(Self::T)
     }
 
     fn add(&mut self, id: u16, template: &[u8]) -> Result<(), NotAdded> {
@@ -89,13 +81,12 @@ impl Memory for RowMemory {
     }
 
     fn remove(&mut self, place: usize) -> bool {
-        if place < self.count {
-            chip::close_row(&mut self.bytes, self.count, place);
-            self.count -= 1;
-            true
-        } else {
-            false
+        if place >= self.count {
+            return false;
         }
+        chip::close_row(&mut self.bytes, self.count, place);
+        self.count -= 1;
+        true
     }
 
     fn clear(&mut self) {

@@ -1,19 +1,17 @@
--- The steps of a search for a key, and a row that goes behind the others.
-use Rattle.std.proofs.Common.{◌≡◌, ℕ, suc, ◌+◌, ◌-◌, ◌<◌, ◌≤◌, List, [], ◌++◌, length, get_or, take, drop, Some, None, sym, ap, ◌∙◌, add-one, arith}
+-- The first row with a key, and a row that goes behind the others.
+use Rattle.std.proofs.Common.{◌≡◌, ℕ, suc, ◌+◌, ◌-◌, true, false, eqb, List, [], ◌∷◌, ◌++◌, length, take, drop, Some, option_map, sym, ap, ◌∙◌, add-one, arith}
 use borrow.Rule.Slice.PartMut.{put_mid}
-use Rattle.std.proofs.lemmas.List.{drop_more, at_drop_all, drop_all, drop-drop, take_rest, length-drop, append-nil, append_assoc}
-use Rattle.std.proofs.lemmas.Bool.{eq-eqb, ne_eqb}
-use Rattle.rows.specs.Rows.{place_from, put_last}
+use Rattle.std.proofs.lemmas.List.{drop_all, drop-drop, take_rest, length-drop, append-nil, append_assoc}
+use Rattle.std.proofs.lemmas.Bool.Decides.{nat_tests}
+use Rattle.rows.specs.Rows.{place_of, put_last}
 
-module _ {X : Type 0} (key_of : X → ℕ) (key : ℕ) (xs : List X) (i : ℕ) (x : X) (inside : i < length xs) (is : x ≡ get_or xs i x) where
-  pub place-yes : key_of x ≡ key → Some i ≡ place_from key_of key i (drop i xs)
-  place-yes e = let d = drop_more xs i x inside in let t = eq-eqb (key_of x) key e in rw (d, ← is, t)
+-- one row more in front
+module _ {X : Type 0} (key_of : X → ℕ) (key : ℕ) (x : X) (xs : List X) where
+  pub place_first : eqb (key_of x) key ≡ true → place_of key_of key (x ∷ xs) ≡ Some 0
+  place_first t = grind (arith, nat_tests)
 
-  pub place-no : (key_of x ≡ key → ⊥) → place_from key_of key (i + 1) (drop (i + 1) xs) ≡ place_from key_of key i (drop i xs)
-  place-no e = let d = drop_more xs i x inside in let t = ne_eqb (key_of x) key e in rw (d, ← is, t)
-
-pub place_end : {X : Type 0} (key_of : X → ℕ) (key : ℕ) (xs : List X) (i : ℕ) → length xs ≤ i → None ≡ place_from key_of key i (drop i xs)
-place_end key_of key xs i le = sym (at_drop_all (place_from key_of key i) xs i le)
+  pub place-later : eqb (key_of x) key ≡ false → place_of key_of key (x ∷ xs) ≡ option_map suc (place_of key_of key xs)
+  place-later t = grind (arith, nat_tests)
 
 -- the rows from a place on, turned by one
 pub turned : {X : Type 0} (xs w : List X) (at : ℕ)

@@ -1,13 +1,9 @@
-use Rattle.std.specs.Prelude.{ℕ, ◌+◌, cond, List, [], ◌∷◌, ◌++◌, take, drop, Some, None, Option, ◌==◌}
+use Rattle.std.specs.Prelude.{ℕ, List, ◌++◌, take, drop, Some, None, Option, ◌==◌, position}
 use Rattle.std.specs.List.{remove}
 
--- the place of the first row with the key, counted from a place on
-abbrev pub place_from : {X : Type 0} → (X → ℕ) → ℕ → ℕ → List X → Option ℕ
-place_from key_of key at [] = None
-place_from key_of key at (x ∷ xs) = cond (key_of x == key) (Some at) (place_from key_of key (at + 1) xs)
-
+-- the place of the first row with the key
 abbrev pub place_of : {X : Type 0} → (X → ℕ) → ℕ → List X → Option ℕ
-place_of key_of key xs = place_from key_of key 0 xs
+place_of key_of key xs = position (λ row. key_of row == key) xs
 
 -- the row at a place goes behind the others, which keep their order
 abbrev pub put_last : {X : Type 0} → List X → ℕ → List X

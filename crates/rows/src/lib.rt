@@ -1,7 +1,7 @@
 //! Rows of a table, found and struck by a key of two bytes.
 #![tactic(auto)]
 
-ghost use Rattle.std.specs.Prelude.{◌≡◌, ℕ, ◌<◌, cond, length, is_some, IfSome};
+ghost use Rattle.std.specs.Prelude.{◌≡◌, ℕ, ◌<◌, length, is_some, IfSome};
 ghost use Rattle.rows.specs.Rows.{place_of, struck};
 
 /// A row with a key.
@@ -17,15 +17,11 @@ pub fn find<R: Keyed>(rows: &[R], key: u16) -> Option<usize>
     ensures value { result ≡ place_of R.Keyed.key_of key rows.now }
     ensures within { IfSome result (λ at. at < length rows.now) }
 {
-    for (at, row) in rows.iter().enumerate() {
-        if row.key() == key {
-            return Some(at);
-        }
-    }
-    None
+    rows.iter().position(|row| row.key() == key)
 }
 
-/// Strikes the first row that has the key: it goes behind the others, which keep their order. Says whether there was one.
+/// Strikes the first row that has the key: it goes behind the others, which keep their order.
+/// Says whether there was one.
 pub fn strike<R: Keyed>(rows: &mut [R], key: u16) -> bool
     ensures value { result ≡ is_some (place_of R.Keyed.key_of key rows.old) }
     ensures after { rows.new ≡ struck R.Keyed.key_of key rows.old }

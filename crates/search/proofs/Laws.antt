@@ -1,13 +1,13 @@
 -- The searches answer what the laws say in words of places and IDs.
-use Rattle.std.proofs.Common.{◌≡◌, ℕ, zero, suc, ◌+◌, ◌<◌, ◌≤◌, Bool, true, false, cond, ◌&&◌, eqb, leb, ◌≢◌, ◌⊎◌, List, [], ◌∷◌, ◌++◌, length, Some, None, Option, sym, refl, ap, ◌∙◌, subst, inl, inr, ⊎_elim, arith}
+use Rattle.std.proofs.Common.{◌≡◌, ℕ, zero, suc, ◌+◌, ◌<◌, ◌≤◌, Bool, true, false, cond, eqb, leb, ◌≢◌, ◌⊎◌, List, [], ◌∷◌, ◌++◌, length, Some, Option, sym, refl, ap, ◌∙◌, subst, inl, inr, ⊎_elim, arith}
 use Rattle.std.proofs.lemmas.List.{append-nil, append_assoc, get_or_at, length-append, length_push, take_at}
 use Rattle.std.proofs.lemmas.List.Sums.{sum_by-cons}
-use Rattle.std.proofs.lemmas.Bool.{cases_lt, cases_eq, cases_Bool, eqb-true, eqb-false, le-leb}
+use Rattle.std.proofs.lemmas.Bool.{cases_lt, cases_eq, cases_Bool, eqb-true, eqb-false}
 use Rattle.std.proofs.lemmas.Bool.Decides.{nat_tests}
 use Rattle.memory.specs.Held.{Held, none, held_at}
 use Rattle.search.specs.Ids.{count_of, free_from, lowest_free}
 use Rattle.search.specs.Laws.{FindsOldest, IsOldest, IsLowestFree}
-use Rattle.search.specs.Oldest.{any_of, oldest, oldest_from}
+use Rattle.search.specs.Oldest.{oldest, oldest_from}
 
 module _ (ok : Held → Bool) where
   -- none of the older templates passes
@@ -58,17 +58,8 @@ module _ (ok : Held → Bool) where
   pub finds-oldest : (h : List Held) → FindsOldest ok h (oldest ok h)
   finds-oldest h = finds-from [] h (λ k l. absurd (omega arith))
 
--- where the buffer has room for a template
-pub with-room : (size room : ℕ) (ok : Held → Bool) (h : List Held) (r : Option (ℕ × ℕ)) → size ≤ room → r ≡ oldest ok h
-    → (r ≡ cond (leb size room) (oldest ok h) None) × FindsOldest ok h r
-with-room size room ok h r le e = (
-  e ∙ ap (λ b. cond b (oldest ok h) None) (sym (le-leb size room le)),
-  (let P : Option (ℕ × ℕ) → Type 0 = λ x. FindsOldest ok h x in subst P (sym e) (finds-oldest ok h)),
-)
-
-pub any-with-room : (size room : ℕ) (ok : Held → Bool) (h : List Held) (b : Bool) → size ≤ room → b ≡ any_of ok h
-    → b ≡ (leb size room && any_of ok h)
-any-with-room size room ok h b le e = e ∙ ap (λ r. r && any_of ok h) (sym (le-leb size room le))
+pub finds : (ok : Held → Bool) (h : List Held) (r : Option (ℕ × ℕ)) → r ≡ oldest ok h → FindsOldest ok h r
+finds ok h r e = let P : Option (ℕ × ℕ) → Type 0 = λ x. FindsOldest ok h x in subst P (sym e) (finds-oldest ok h)
 
 -- as many IDs as there are templates can be taken
 module _ (h : List Held) where
@@ -153,18 +144,5 @@ lowest-free h = record {
         let few = spread-le (1 + length h) h in omega arith))
         (cases_eq (count_of (lowest_free h) h) 0)
 
--- a search for it that goes up from 1
-module _ (h : List Held) where
-  pub lowest-within : lowest_free h ≤ 1 + length h
-  lowest-within = (free-between h 1 (length h)).1
-
-  pub lowest-later : (id : ℕ) → id ≤ lowest_free h → (count_of id h ≡ 0 → ⊥) → id + 1 ≤ lowest_free h
-  lowest-later id le some =
-      let ne : id ≢ lowest_free h = λ e. some (ap (λ k. count_of k h) e ∙ (lowest-free h).free) in omega arith
-
-  pub lowest-here : (id : ℕ) → 1 ≤ id → id ≤ lowest_free h → count_of id h ≡ 0 → id ≡ lowest_free h
-  lowest-here id some le z =
-      ⊎_elim
-      (λ (lt : id < lowest_free h). absurd ((lowest-free h).lower id some lt z))
-      (λ (ge : lowest_free h ≤ id). omega arith)
-      (cases_lt id (lowest_free h))
+pub lowest-within : (h : List Held) → lowest_free h ≤ 1 + length h
+lowest-within h = (free-between h 1 (length h)).1

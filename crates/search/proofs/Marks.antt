@@ -1,10 +1,13 @@
 -- Marks of the IDs that some template has.
-use Rattle.std.proofs.Common.{◌≡◌, ℕ, ◌+◌, ◌<◌, ◌≤◌, Bool, true, false, not, eqb, ◌≢◌, List, length, get_or, take, set, sym, ap, ◌∙◌, ⊎_elim, arith}
-use Rattle.std.proofs.lemmas.List.{length-set, get_or-set_same, get_or-set_other}
-use Rattle.std.proofs.lemmas.List.Sums.{count_by_more_yes, count_by_more_no}
-use Rattle.std.proofs.lemmas.Bool.{cases_eq, eq-eqb, ne_eqb}
-use Rattle.memory.specs.Held.{Held, none, held_at}
-use Rattle.search.specs.Ids.{count_of}
+use Rattle.std.proofs.Common.{◌≡◌, ℕ, ◌+◌, ◌-◌, ◌<◌, ◌≤◌, Bool, false, not, eqb, List, length, get_or, take, drop, ap, ◌∙◌, arith}
+use Rattle.std.proofs.lemmas.List.{get_or-drop, length-drop, take_all}
+use Rattle.std.proofs.lemmas.List.Sums.{prefix_len_is}
+use Rattle.std.proofs.lemmas.Bool.{eq-eqb, ne_eqb}
+use Rattle.std.specs.List.{prefix_len}
+use Rattle.std.proofs.lemmas.List.Folds.{length-prefix_len}
+use Rattle.memory.specs.Held.{Held}
+use Rattle.search.specs.Ids.{count_of, lowest_free}
+use Rattle.search.proofs.Laws.{lowest-free, lowest-within}
 
 -- the ID has some template
 abbrev has : List Held → ℕ → Bool
@@ -14,27 +17,20 @@ has h id = not (eqb (count_of id h) 0)
 abbrev pub Marked : ℕ → List Bool → List Held → Type 0
 Marked n marks h = (length marks ≡ n) × ((id : ℕ) → id < n → get_or marks id false ≡ has h id)
 
--- one template more
-module _ (h : List Held) (i : ℕ) (inside : i < length h) (n : ℕ) (marks : List Bool) (was : Marked n marks (take i h)) where
-  has_more : has (take (i + 1) h) (held_at h i).id ≡ true
-  has_more =
-      let id = (held_at h i).id in
-      let m = count_by_more_yes (λ e. eqb e.id id) h i none inside (eq-eqb id id (omega arith)) in
-      ap not (ne_eqb (count_of id (take (i + 1) h)) 0 (λ z. omega arith))
-
-  has_other : (id : ℕ) → (held_at h i).id ≢ id → has (take (i + 1) h) id ≡ has (take i h) id
-  has_other id ne = ap (λ k. not (eqb k 0)) (count_by_more_no (λ e. eqb e.id id) h i none inside (ne_eqb (held_at h i).id id ne))
-
-  pub marked_more : (id : ℕ) → id ≡ (held_at h i).id → id < n → Marked n (set marks id true) (take (i + 1) h)
-  marked_more id is low = (
-    length-set marks id true ∙ was.0,
-    λ k l. ⊎_elim
-        (λ (e : k ≡ id).
-        ap (λ j. get_or (set marks id true) j false) e ∙ get_or-set_same marks id true false (omega arith)
-        ∙ sym (ap (has (take (i + 1) h)) (e ∙ is) ∙ has_more))
-        (λ (ne : k ≢ id). get_or-set_other marks id k true false ne ∙ was.1 k l ∙ sym (has_other k (λ e. ne (sym e ∙ sym is))))
-        (cases_eq k id),
-  )
-
-  pub marked-same : n ≤ (held_at h i).id → Marked n marks (take (i + 1) h)
-  marked-same high = (was.0, λ k l. was.1 k l ∙ sym (has_other k (λ e. omega arith)))
+-- behind the mark of 0, as many are set as there are IDs below the lowest that is free
+pub lowest-marked : (h : List Held) (marks : List Bool) → length marks ≡ 502 → length h ≤ 500
+    → ((id : ℕ) → id < 502 → get_or marks id false ≡ has h id)
+    → (n : ℕ) → n ≡ length (take (prefix_len (λ b. b) (take 501 (drop 1 marks))) (take 501 (drop 1 marks))) → 1 + n ≡ lowest_free h
+lowest-marked h marks long few marked n e =
+    let low = lowest-free h in
+    let most = lowest-within h in
+    let some = low.some_id in
+    let rest = length-drop 1 marks in
+    let all : take 501 (drop 1 marks) ≡ drop 1 marks = take_all 501 (drop 1 marks) (omega arith) in
+    let first = prefix_len_is (λ (b : Bool). b) (drop 1 marks) (lowest_free h - 1) false (omega arith)
+    (λ k l. get_or-drop 1 marks k false ∙ marked (1 + k) (omega arith) ∙ ap not (ne_eqb _ 0 (low.lower (1 + k) (omega arith) (omega arith))))
+    (λ _. get_or-drop 1 marks (lowest_free h - 1) false ∙ marked (1 + (lowest_free h - 1)) (omega arith)
+    ∙ ap (has h) (omega arith) ∙ ap not (eq-eqb _ 0 low.free)) in
+    let passed : n ≡ prefix_len (λ (b : Bool). b) (drop 1 marks) =
+    e ∙ ap (λ l. length (take (prefix_len (λ b. b) l) l)) all ∙ length-prefix_len (λ (b : Bool). b) (drop 1 marks) in
+    omega (arith, first, passed)

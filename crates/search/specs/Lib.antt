@@ -1,3 +1,4 @@
 pub mod Ids
 pub mod Oldest
 pub mod Laws
+pub mod Sought

@@ -14,10 +14,7 @@ const LOW_IDS: usize = MOST_TEMPLATES + 2;
 fn is_at<S: Memory>(memory: &S, place: usize, id: u16) -> bool
     ensures { result ≡ is_at id (S.Memory.held memory.now) place }
 {
-    match memory.id_at(place) {
-        Some(other) => other == id,
-        None => false,
-    }
+    memory.id_at(place) == Some(id)
 }
 
 /// How many of the IDs are this one.
@@ -25,26 +22,16 @@ pub(crate) fn count_in(ids: &[u16], id: u16) -> u32
     requires { length ids.now < 2 ^ 32 }
     ensures { result ≡ count_by (λ other. nat_eq other id) ids.now }
 {
-    let mut n = 0;
-    for other in ids {
-        if *other == id {
-            n += 1;
-        }
-    }
-    n
+    ids.iter().filter(|other| **other == id).count() as u32
 }
 
 /// How many templates the ID has.
 pub fn count_of<S: Memory>(memory: &S, id: u16) -> u32
     ensures { result ≡ count_of id (S.Memory.held memory.now) }
 {
-    let mut count = 0;
-    for place in 0..memory.count() {
-        if is_at(memory, place, id) {
-            count += 1;
-        }
-    }
-    count
+    (0..memory.count())
+        .filter(|place| is_at(memory, *place, id))
+        .count() as u32
 }
 
 /// Which of the low IDs have some template.
@@ -70,26 +57,15 @@ pub fn lowest_free_id<S: Memory>(memory: &S) -> u16
     ensures lowest { IsLowestFree (S.Memory.held memory.now) result }
 {
     let taken = taken_ids(memory);
-    let mut id: u16 = 1;
-    // Some low ID is free, so this ends within the marks.
-    while taken[usize::from(id)] {
-        id += 1;
-    }
-    id
+    // Some low ID is free, so the taken ones from 1 on end within the marks.
+    1 + taken[1..].iter().take_while(|taken| **taken).count() as u16
 }
 
 /// The place of the ID's template of this number, counted from 0.
 pub fn place_of<S: Memory>(memory: &S, id: u16, number: u32) -> Option<usize>
     ensures { result ≡ place_of id number (S.Memory.held memory.now) }
 {
-    let mut left = number;
-    for place in 0..memory.count() {
-        if is_at(memory, place, id) {
-            if left == 0 {
-                return Some(place);
-            }
-            left -= 1;
-        }
-    }
-    None
+    (0..memory.count())
+        .filter(|place| is_at(memory, *place, id))
+        .nth(number as usize)
 }

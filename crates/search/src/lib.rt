@@ -7,4 +7,4 @@ mod oldest;
 
 pub use allowed::{Allowed, Everyone, IdRange};
 pub use ids::{count_of, lowest_free_id, place_of};
-pub use oldest::{any_agrees, search_oldest};
+pub use oldest::Search;

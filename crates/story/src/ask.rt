@@ -1,10 +1,13 @@
 use crate::person::{SCAN, scan_of};
-use codes::{Coded, Command, EnrollFlag, Numbered, Parameter};
+use codes::{Coded, Command, EnrollFlag, Parameter};
 use packet::{Form, Request};
 use std::fmt;
 
 /// The level of an administrator who may let others enrol and delete.
 const BOTH: u8 = 3;
+
+/// The range of all IDs.
+const ALL: u16 = 0;
 
 /// What the host asks in this story.
 #[derive(Clone, Copy)]
@@ -40,25 +43,25 @@ impl Ask {
         }
     }
 
-    /// The ID that is meant; 0 where none is, which also is the range of all IDs.
-    fn id(self) -> u16 {
+    /// The ID that is meant, if one is.
+    fn id(self) -> Option<u16> {
         match self {
             Ask::Enroll(id)
             | Ask::EnrollByAdministrator(id)
             | Ask::EnrollTemplate(id)
             | Ask::Promote(id)
-            | Ask::Delete(id) => id,
-            _ => 0,
+            | Ask::Delete(id) => Some(id),
+            _ => None,
         }
     }
 
     fn flag(self) -> u8 {
         match self {
-            Ask::EnrollTemplate(_) => EnrollFlag::AddNew.number(),
+            Ask::EnrollTemplate(_) => u8::from(EnrollFlag::AddNew),
             Ask::Promote(_) => BOTH,
-            Ask::CountHeld => Parameter::EnrolledFinger.number(),
-            Ask::CountFree => Parameter::AvailableFinger.number(),
-            _ => EnrollFlag::Replace.number(),
+            Ask::CountHeld => u8::from(Parameter::EnrolledFinger),
+            Ask::CountFree => u8::from(Parameter::AvailableFinger),
+            _ => u8::from(EnrollFlag::Replace),
         }
     }
 
@@ -98,7 +101,7 @@ impl Ask {
 
     /// The template that ET carries: each ID has its own.
     pub fn template(self) -> [u8; SCAN] {
-        let [low, _] = self.id().to_le_bytes();
+        let [low, _] = self.id().unwrap_or(ALL).to_le_bytes();
         scan_of(low)
     }
 
@@ -107,7 +110,7 @@ impl Ask {
         Request {
             form: Form::Standard,
             command: Coded::Known(self.command()),
-            param: u32::from(self.id()),
+            param: u32::from(self.id().unwrap_or(ALL)),
             size: self.size(),
             flag: self.flag(),
             data: template,
@@ -117,11 +120,11 @@ impl Ask {
 
 impl fmt::Display for Ask {
     fn fmt<W: fmt::Write>(&self, f: &mut fmt::Formatter<W>) -> fmt::Result {
-        let name = self.command().name();
+        let command = self.command();
         let deed = self.deed();
         match self.id() {
-            0 => write!(f, "{name}: {deed}"),
-            id => write!(f, "{name} of ID {id}: {deed}"),
+            None => write!(f, "{command}: {deed}"),
+            Some(id) => write!(f, "{command} of ID {id}: {deed}"),
         }
     }
 }

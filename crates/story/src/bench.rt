@@ -1,10 +1,10 @@
 use crate::ask::Ask;
 use crate::person::{Person, SCAN};
-use anyhow::anyhow;
+use anyhow::{Context, anyhow};
 use codes::Refusal;
 use engine::{Answer, Module};
 use matcher::ByteMatcher;
-use packet::{Response, read_response, write_request};
+use packet::write_request;
 use page_memory::PageMemory;
 use std::alloc::{AllocError, Global};
 
@@ -20,16 +20,17 @@ pub(crate) struct Bench {
     module: Module<ByteMatcher, PageMemory>,
     out: [u8; 2048],
     work: [u8; 384],
-    /// How many bytes of `out` the last call wrote.
-    count: usize,
 }
 
-/// How many bytes a call wrote; a refused call ends the story.
-fn written(answer: Result<Answer, Refusal>) -> anyhow::Result<usize> {
-    match answer {
-        Ok(answer) => Ok(answer.count),
-        Err(refusal) => Err(anyhow!("{}", refusal.name())),
-    }
+/// A refusal ends the story.
+pub(crate) fn refused(refusal: Refusal) -> anyhow::Error {
+    anyhow!("{refusal}")
+}
+
+/// What a call wrote at the front of the answer buffer.
+fn written(answer: Result<Answer, Refusal>, out: &[u8]) -> anyhow::Result<&[u8]> {
+    let count = answer.map_err(refused)?.count;
+    Ok(&out[..count.min(out.len())])
 }
 
 impl Bench {
@@ -39,46 +40,26 @@ impl Bench {
             module: Module::new(ByteMatcher, PageMemory::new(chip), OWN),
             out: [0; 2048],
             work: [0; 384],
-            count: 0,
         })
     }
 
-    /// The host sends a request.
-    pub fn ask(&mut self, ask: Ask) -> anyhow::Result<()> {
+    /// The host sends a request. What the module writes is lent until the next call.
+    pub fn ask(&mut self, ask: Ask) -> anyhow::Result<&[u8]> {
         let mut frame = [0; 512];
-        let Some(length) = write_request(&mut frame, ask.request(&ask.template())) else {
-            return Err(anyhow!("the request is longer than the line takes"));
-        };
-        let Some(sent) = frame.get(0..length) else {
-            return Err(anyhow!("the request is longer than the line takes"));
-        };
-        self.count = written(self.module.packet(sent, &mut self.out, &mut self.work))?;
-        Ok(())
+        let length = write_request(&mut frame, ask.request(&ask.template()));
+        let sent = length
+            .and_then(|length| frame.get(..length))
+            .context("the request is longer than the line takes")?;
+        let answer = self.module.packet(sent, &mut self.out, &mut self.work);
+        written(answer, &self.out)
     }
 
-    /// A person lays a finger on the sensor.
-    pub fn finger(&mut self, person: Person, quality: u8) -> anyhow::Result<()> {
+    /// A person lays a finger on the sensor. What the module writes is lent until the next call.
+    pub fn finger(&mut self, person: Person, quality: u8) -> anyhow::Result<&[u8]> {
         let scan = person.scan();
         let answer = self
             .module
             .finger(&scan, quality, &mut self.out, &mut self.work);
-        self.count = written(answer)?;
-        Ok(())
-    }
-
-    /// What the module wrote at the last call.
-    pub fn said(&self) -> &[u8] {
-        match self.out.get(0..self.count) {
-            Some(bytes) => bytes,
-            None => &[],
-        }
-    }
-
-    /// The first response of the last call.
-    pub fn first(&self) -> anyhow::Result<Response<'_>> {
-        match read_response(self.said()) {
-            Ok((response, _)) => Ok(response),
-            Err(refusal) => Err(anyhow!("{}", refusal.name())),
-        }
+        written(answer, &self.out)
     }
 }

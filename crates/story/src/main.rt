@@ -1,4 +1,4 @@
-//! The life of one module, told to its reader: who may let others enrol, what a grant is worth, and what a full memory says.
+//! The life of one module: who may let others enrol, what a grant is worth, and what a full memory says.
 #![tactic(auto)]
 
 mod ask;

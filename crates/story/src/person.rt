@@ -1,3 +1,5 @@
+use std::fmt;
+
 /// The bytes of a scan: those of a template of a page memory.
 pub(crate) const SCAN: usize = 256;
 
@@ -14,15 +16,17 @@ pub(crate) fn scan_of(number: u8) -> [u8; SCAN] {
 }
 
 impl Person {
-    pub fn name(self) -> &'static str {
-        match self {
-            Person::Ada => "Ada",
-            Person::Ben => "Ben",
-        }
-    }
-
     /// What the sensor sees of the person's finger.
     pub fn scan(self) -> [u8; SCAN] {
         scan_of(self as u8)
+    }
+}
+
+impl fmt::Display for Person {
+    fn fmt<W: fmt::Write>(&self, f: &mut fmt::Formatter<W>) -> fmt::Result {
+        match self {
+            Person::Ada => write!(f, "Ada"),
+            Person::Ben => write!(f, "Ben"),
+        }
     }
 }

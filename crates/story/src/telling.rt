@@ -1,12 +1,33 @@
+use crate::bench::refused;
 use crate::words::Said;
-use anyhow::anyhow;
-use packet::read_response;
+use packet::{Response, read_response};
 use std::fmt::Display;
 use std::io;
 use std::io::Write;
 
 /// The most responses that one call writes.
 const MOST_RESPONSES: usize = 2;
+
+/// The responses that a call wrote, one right behind the other.
+#[derive(Clone, Copy)]
+struct Responses<'a>(&'a [u8]);
+
+impl<'a> Iterator for Responses<'a> {
+    type Item = anyhow::Result<Response<'a>>;
+
+    fn next(&mut self) -> Option<anyhow::Result<Response<'a>>> {
+        if self.0.is_empty() {
+            return None;
+        }
+        match read_response(self.0) {
+            Ok((response, behind)) => {
+                self.0 = behind;
+                Some(Ok(response))
+            }
+            Err(refusal) => Some(Err(refused(refusal))),
+        }
+    }
+}
 
 /// What is told, line by line.
 #[derive(Drop)]
@@ -34,17 +55,8 @@ impl<W: Write> Telling<W> {
         if bytes.is_empty() {
             return Ok(self.line("module", silence)?);
         }
-        let mut rest = bytes;
-        for _ in 0..MOST_RESPONSES {
-            if rest.is_empty() {
-                break;
-            }
-            let (response, behind) = match read_response(rest) {
-                Ok(read) => read,
-                Err(refusal) => return Err(anyhow!("{}", refusal.name())),
-            };
-            self.line("module", Said(response))?;
-            rest = behind;
+        for response in Responses(bytes).take(MOST_RESPONSES) {
+            self.line("module", Said(response?))?;
         }
         Ok(())
     }

@@ -68,10 +68,9 @@ fn write_ids<W: fmt::Write>(f: &mut fmt::Formatter<W>, data: &[u8]) -> fmt::Resu
         return Ok(());
     }
     write!(f, "; IDs")?;
-    for bytes in data.chunks_exact(4) {
-        if let [low, high, _, _] = bytes {
-            write!(f, " {}", u16::from_le_bytes([*low, *high]))?;
-        }
+    let (ids, _) = data.as_chunks::<4>();
+    for [low, high, _, _] in ids {
+        write!(f, " {}", u16::from_le_bytes([*low, *high]))?;
     }
     Ok(())
 }
@@ -86,7 +85,7 @@ impl fmt::Display for Said<'_> {
         let (Coded::Known(command), Coded::Known(code)) = (response.command, response.code) else {
             return write!(f, "a response that nobody knows");
         };
-        write!(f, "{}: {}", command.name(), code_words(code))?;
+        write!(f, "{command}: {}", code_words(code))?;
         write_field(f, param_label(command, code), response.param)?;
         write_field(f, size_label(command, code), response.size)?;
         write_ids(f, response.data)

@@ -1,13 +1,16 @@
-use codes::{Code, Coded, Command, Numbered, Parameter, Refusal};
+use codes::{Code, Coded, Command, Parameter, Refusal};
 use engine::{Answer, Module, Outcomes};
 use packet::{Form, Outcome, Request, write_request};
 use page_memory::PageMemory;
 use point_matcher::PointMatcher;
 use std::alloc::{AllocError, Global};
+use std::array;
 use std::test::*;
 
 /// The bytes of a scan: those of a template of a page memory.
 pub(crate) const SCAN: usize = 256;
+
+const LAST: usize = SCAN - 1;
 
 /// A module on the bench, with the buffers that its calls are lent, as short as they may be.
 #[derive(Drop)]
@@ -15,25 +18,25 @@ pub(crate) struct Bench {
     pub module: Module<PointMatcher, PageMemory>,
     pub out: [u8; 2048],
     work: [u8; 384],
-    /// How many bytes of `out` the last call wrote.
-    pub count: usize,
-    /// The Size of the last outcome.
+}
+
+/// What a call gave: the Size of its last outcome, and what it wrote, which is lent until the next call.
+#[derive(Clone, Copy)]
+pub(crate) struct Given<'a> {
     pub size: u32,
+    pub written: &'a [u8],
 }
 
 /// A scan of so many points, of which the first ones lie at one place and the others far from it.
 /// The mark stands behind the points, where the point matcher does not look.
 pub(crate) fn scan_of(points: u8, near: u8, mark: u8) -> [u8; SCAN] {
-    let mut scan = [0; SCAN];
-    scan[0] = points;
-    for point in near..points {
-        let across = 3 * usize::from(point) + 1;
-        if across < SCAN {
-            scan[across] = 100;
-        }
-    }
-    scan[SCAN - 1] = mark;
-    scan
+    let far = 3 * usize::from(near) + 1..3 * usize::from(points) + 1;
+    array::from_fn(|at| match at {
+        0 => points,
+        LAST => mark,
+        _ if far.contains(&at) && at % 3 == 1 => 100,
+        _ => 0,
+    })
 }
 
 /// A request of the standard form that carries no data.
@@ -61,20 +64,15 @@ pub(crate) fn enroll_template(id: u32, template: &[u8; SCAN]) -> Request<'_> {
 }
 
 pub(crate) fn set(parameter: Parameter, value: u32) -> Request<'static> {
-    request(Command::WriteParameter, 0, value, parameter.number())
+    request(Command::WriteParameter, 0, value, u8::from(parameter))
 }
 
 pub(crate) fn get(parameter: Parameter) -> Request<'static> {
-    request(Command::ReadParameter, 0, 0, parameter.number())
+    request(Command::ReadParameter, 0, 0, u8::from(parameter))
 }
 
 pub(crate) fn all_are(bytes: &[u8], value: u8) -> bool {
-    for byte in bytes {
-        if *byte != value {
-            return false;
-        }
-    }
-    true
+    bytes.iter().all(|byte| *byte == value)
 }
 
 /// The last outcome of a call, if it has one.
@@ -85,6 +83,22 @@ fn last_of(outcomes: Outcomes) -> Option<Outcome> {
     }
 }
 
+fn refused(refusal: Refusal) -> Fail {
+    Fail::new(refusal.name())
+}
+
+/// What a call gave whose last outcome has this code.
+fn ended_with(answer: Answer, out: &[u8], code: Code) -> Result<Given<'_>, Fail> {
+    let last = last_of(answer.outcomes).ok_or("no outcome")?;
+    if last.code != code {
+        return Err(Fail::new("another code"));
+    }
+    Ok(Given {
+        size: last.size,
+        written: &out[..answer.count.min(out.len())],
+    })
+}
+
 impl Bench {
     /// A fresh module with a number, over a chip of so many pages.
     pub fn new(heap: Global, pages: u8, own: u16) -> Result<Bench, AllocError> {
@@ -93,55 +107,43 @@ impl Bench {
             module: Module::new(PointMatcher, PageMemory::new(chip), own),
             out: [0; 2048],
             work: [0; 384],
-            count: 0,
-            size: 0,
         })
     }
 
-    /// Keeps what was written, and sees that the last outcome has this code; none is a call without an outcome.
-    fn took(&mut self, answer: Result<Answer, Refusal>, code: Option<Code>) -> Result<(), Fail> {
-        let answer = match answer {
-            Ok(answer) => answer,
-            Err(refusal) => return Err(Fail::new(refusal.name())),
-        };
-        self.count = answer.count;
-        match (last_of(answer.outcomes), code) {
-            (None, None) => Ok(()),
-            (Some(outcome), Some(code)) => {
-                self.size = outcome.size;
-                if outcome.code.number() != code.number() {
-                    return Err(Fail::new("another code"));
-                }
-                Ok(())
-            }
-            (Some(_), None) => Err(Fail::new("an outcome")),
-            (None, Some(_)) => Err(Fail::new("no outcome")),
-        }
-    }
-
-    fn send(&mut self, request: Request<'_>, code: Option<Code>) -> Result<(), Fail> {
+    fn send(&mut self, request: Request<'_>) -> Result<Answer, Fail> {
         let mut frame = [0; 512];
         let length = write_request(&mut frame, request).ok_or("a request too long")?;
         let sent = frame.get(0..length).ok_or("a request too long")?;
-        let answer = self.module.packet(sent, &mut self.out, &mut self.work);
-        self.took(answer, code)
+        self.module
+            .packet(sent, &mut self.out, &mut self.work)
+            .map_err(refused)
     }
 
     /// Sends a request that is carried out at once, with this code.
-    pub fn ask(&mut self, request: Request<'_>, code: Code) -> Result<(), Fail> {
-        self.send(request, Some(code))
+    pub fn ask(&mut self, request: Request<'_>, code: Code) -> Result<Given<'_>, Fail> {
+        let answer = self.send(request)?;
+        ended_with(answer, &self.out, code)
     }
 
     /// Sends a request that waits for a finger.
     pub fn start(&mut self, request: Request<'_>) -> Result<(), Fail> {
-        self.send(request, None)
+        match last_of(self.send(request)?.outcomes) {
+            Some(_) => Err(Fail::new("an outcome")),
+            None => Ok(()),
+        }
     }
 
     /// Lays a finger, whose last outcome has this code.
-    pub fn finger(&mut self, scan: &[u8; SCAN], quality: u8, code: Code) -> Result<(), Fail> {
+    pub fn finger(
+        &mut self,
+        scan: &[u8; SCAN],
+        quality: u8,
+        code: Code,
+    ) -> Result<Given<'_>, Fail> {
         let answer = self
             .module
-            .finger(scan, quality, &mut self.out, &mut self.work);
-        self.took(answer, Some(code))
+            .finger(scan, quality, &mut self.out, &mut self.work)
+            .map_err(refused)?;
+        ended_with(answer, &self.out, code)
     }
 }

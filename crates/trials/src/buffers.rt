@@ -5,12 +5,9 @@ use std::alloc::Global;
 use std::process::Abort;
 use std::test::*;
 
-/// The number of a refusal; 0 for a call that is not refused.
-fn number_of(answer: Result<Answer, Refusal>) -> u8 {
-    match answer {
-        Ok(_) => 0,
-        Err(refusal) => refusal.number(),
-    }
+/// The number of a refusal; none for a call that is not refused.
+fn number_of(answer: Result<Answer, Refusal>) -> Option<u8> {
+    answer.err().map(u8::from)
 }
 
 /// That all three calls refuse buffers of these lengths by this number, before they look at an empty frame,
@@ -25,15 +22,19 @@ fn refuses(
 ) -> Result<(), Fail> {
     let mut out = vec![in heap; 0xA5u8; out]?;
     let mut work = vec![in heap; 0x5Au8; work]?;
+    let refused = Some(number);
     assert_eq!(rt;
         number_of(bench.module.packet(&[], &mut out, &mut work)),
-        number
+        refused
     );
     assert_eq!(rt;
         number_of(bench.module.finger(&[], 50, &mut out, &mut work)),
-        number
+        refused
     );
-    assert_eq!(rt; number_of(bench.module.second(&mut out, &mut work)), number);
+    assert_eq!(rt;
+        number_of(bench.module.second(&mut out, &mut work)),
+        refused
+    );
     assert!(rt; all_are(&out, 0xA5));
     assert!(rt; all_are(&work, 0x5A));
     Ok(())
@@ -48,5 +49,6 @@ fn short_buffers_are_refused_and_left(rt: HostRuntime) -> Result<(), Fail> {
     for (out, work, number) in [(2047, 384, 1), (2048, 383, 2), (2047, 383, 1), (0, 0, 1)] {
         refuses(&rt, rt.alloc(), &mut bench, out, work, number)?;
     }
-    bench.finger(&scan_of(20, 20, 0), 50, Code::ScanSuccess)
+    bench.finger(&scan_of(20, 20, 0), 50, Code::ScanSuccess)?;
+    Ok(())
 }

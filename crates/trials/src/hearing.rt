@@ -19,11 +19,11 @@ fn module_0_hears_broadcasts_and_is_silent(rt: HostRuntime) -> Result<(), Fail> 
     bench.out = [0xA5; 2048];
     let template = scan_of(20, 20, 0);
     bench.ask(to_all(enroll_template(1, &template)), Code::Success)?;
-    bench.ask(to_all(get(Parameter::EnrolledFinger)), Code::Success)?;
-    assert_eq!(rt; bench.size, 1);
+    let enrolled = bench.ask(to_all(get(Parameter::EnrolledFinger)), Code::Success)?;
+    assert_eq!(rt; enrolled.size, 1);
     bench.start(to_all(request(Command::Verify, 1, 0, 0)))?;
-    bench.finger(&template, 50, Code::Success)?;
-    assert_eq!(rt; bench.count, 0);
+    let verified = bench.finger(&template, 50, Code::Success)?;
+    assert_eq!(rt; verified.written.len(), 0);
     assert!(rt; all_are(&bench.out, 0xA5));
     Ok(())
 }

@@ -37,8 +37,8 @@ fn kept(bench: &mut Bench, first: u8, second: u8) -> Result<u8, Fail> {
     bench.start(request(Command::Enroll, 1, 0, 0))?;
     bench.finger(&scan_of(20, 20, 1), first, Code::ScanSuccess)?;
     bench.finger(&scan_of(20, 20, 2), second, Code::Success)?;
-    bench.ask(request(Command::ReadTemplate, 1, 0, 0), Code::Success)?;
-    Ok(bench.out[HEAD + SCAN - 1])
+    let read = bench.ask(request(Command::ReadTemplate, 1, 0, 0), Code::Success)?;
+    Ok(*read.written.get(HEAD + SCAN - 1).ok_or("no mark")?)
 }
 
 #[test]
@@ -57,12 +57,12 @@ fn a_chip_of_no_bytes_keeps_nothing(rt: HostRuntime) -> Result<(), Fail> {
     let mut bench = Bench::new(rt.alloc(), 0, 1)?;
     bench.ask(request(Command::Enroll, 1, 0, 0), Code::MemFull)?;
     bench.ask(enroll_template(1, &scan_of(20, 20, 0)), Code::MemFull)?;
-    bench.ask(request(Command::ListTemplates, 0, 0, 0), Code::Success)?;
+    let listed = bench.ask(request(Command::ListTemplates, 0, 0, 0), Code::Success)?;
     assert_eq!(rt;
-        (bench.count, bench.size, bench.out[HEAD]),
-        (HEAD + 1, 0, 0x0A)
+        (listed.written.len(), listed.size, listed.written.get(HEAD)),
+        (HEAD + 1, 0, Some(&0x0A))
     );
-    bench.ask(get(Parameter::AvailableFinger), Code::Success)?;
-    assert_eq!(rt; bench.size, 0);
+    let free = bench.ask(get(Parameter::AvailableFinger), Code::Success)?;
+    assert_eq!(rt; free.size, 0);
     Ok(())
 }

@@ -6,7 +6,8 @@ use std::test::*;
 fn verified(bench: &mut Bench, level: u32, code: Code) -> Result<(), Fail> {
     bench.ask(set(Parameter::SecurityLevel, level), Code::Success)?;
     bench.start(request(Command::Verify, 1, 0, 0))?;
-    bench.finger(&scan_of(12, 10, 0), 50, code)
+    bench.finger(&scan_of(12, 10, 0), 50, code)?;
+    Ok(())
 }
 
 /// The codes of the levels are in another order than their strictness.
@@ -24,7 +25,8 @@ fn ten_near_points_pass_until_eleven_are_wanted(rt: HostRuntime) -> Result<(), F
 fn enrolled(bench: &mut Bench, first: u8, second: u8, code: Code) -> Result<(), Fail> {
     bench.start(request(Command::Enroll, 1, 0, 0))?;
     bench.finger(&scan_of(first, first, 0), 50, Code::ScanSuccess)?;
-    bench.finger(&scan_of(second, second, 0), 50, code)
+    bench.finger(&scan_of(second, second, 0), 50, code)?;
+    Ok(())
 }
 
 /// Only the points of the scan are counted, so the two sides can be told apart.

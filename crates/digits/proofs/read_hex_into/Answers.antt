@@ -1,18 +1,23 @@
-use Rattle.std.proofs.Common.{◌≤◌, length, arith, ltb-false, ltb-true}
-use Rattle.std.proofs.lemmas.List.{take_rest, length-drop}
-use Rattle.digits.proofs.Pairs.{one_more, read_all, spelled}
+use Rattle.std.proofs.Common.{◌*◌, arith, ltb-true}
+use Rattle.std.proofs.lemmas.Result.{err_from_is_err_and}
+use Rattle.digits.proofs.Pairs.{one_more, read_all, spelled, stops}
 use Rattle.digits.proofs.read_hex_into.Goals as goal
 
-pub loop-rest-preserved : goal.loop-rest-preserved
-loop-rest-preserved c =
-    let two : 2 ≤ length c.loop-rest.rest.now = omega (arith, ltb-false) in (
-      one_more c.loop-rest.at _ _ c.loop-rest.rest.now _ _ two c.in_ok-byte_from.ensures c.push_reserved.ensures.items c.loop-rest.invariant.0,
-      rw (take_rest, length-drop) (omega arith),
-      omega arith,
-      omega arith,
-    )
+pub returns-in_err-byte_from-clause-value : goal.returns-in_err-byte_from-clause-value
+returns-in_err-byte_from-clause-value c =
+    let p = err_from_is_err_and c.from_residual-in_err-byte_from.result c.from_residual-in_err-byte_from.ensures.1 in
+    rw (p.1, p.2)
+    (stops c.args.digits.now _ _ c.loop-index.index _ _ c.as_chunks.ensures.front (omega arith) c.in_err-byte_from.ensures c.loop-index.invariant.read)
 
-pub returns : goal.returns
-returns c =
-    let all = read_all c.loop-rest.at _ c.loop-rest.rest.now _ (omega (arith, ltb-true)) c.loop-rest.invariant.0 in
-    record { value = all; back = spelled 0 c.args.digits.now _ all; room = tt }
+pub loop-index-preserved : goal.loop-index-preserved
+loop-index-preserved c = record {
+  read =
+      one_more c.args.digits.now _ _ _ c.loop-index.index _ _ c.as_chunks.ensures.front (omega arith) c.in_ok-byte_from.ensures
+      c.push_reserved.ensures.items c.loop-index.invariant.read;
+  count = omega arith;
+  room = omega arith;
+}
+
+pub returns-then-last-lt1-clause-back : goal.returns-then-last-lt1-clause-back
+returns-then-last-lt1-clause-back c =
+    spelled 0 c.args.digits.now _ (read_all (2 * c.loop-index.index) _ _ _ (omega (arith, ltb-true)) c.loop-index.invariant.read)

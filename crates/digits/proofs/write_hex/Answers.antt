@@ -1,6 +1,4 @@
-use Rattle.std.proofs.Common.{◌++◌, vec_items, ap, ◌∙◌, arith}
-use Rattle.std.proofs.lemmas.List.{take_all}
-use Rattle.digits.specs.Digits.{hex_text}
+use Rattle.std.proofs.Common.{arith}
 use Rattle.digits.proofs.Written.{pair-more}
 use Rattle.digits.proofs.write_hex.Goals as goal
 
@@ -12,9 +10,3 @@ loop-b-preserved c = (
   omega (arith, c.in_ok-push.ensures.len, c.in_ok-push-2.ensures.len),
   omega arith,
 )
-
-pub returns : goal.returns
-returns c = record {
-  value = c.loop-b.invariant.0 ∙ ap (λ t. vec_items c.args.text.now ++ hex_text t) (take_all _ _ c.loop-b-test.false);
-  room = tt;
-}

@@ -1,11 +1,8 @@
-use Rattle.std.proofs.Common.{arith, rules}
-use Rattle.std.proofs.lemmas.List.Sums.{sum_by_more}
-use Rattle.std.proofs.lemmas.List.{take_all}
+use Rattle.std.proofs.Common.{◌≡◌, ◌+◌, ◌%◌, fold, ◌∙◌, rules}
+use Rattle.packet.proofs.Sums.{fold_checksum}
 use Rattle.packet.proofs.checksum.checksum.Goals as goal
 
-pub loop-b-preserved : goal.loop-b-preserved
-loop-b-preserved c =
-    omega (arith, sum_by_more (λ x. x) c.args.bytes.now c.loop-b.b-index 0 (omega arith))
-
 pub returns : goal.returns
-returns c = search (rules, take_all)
+returns c =
+    let e : c.fold.result ≡ fold (λ s b. (s + b) % 256) 0 c.args.bytes.now = search rules in
+    e ∙ fold_checksum c.args.bytes.now

@@ -1,16 +1,13 @@
-use Rattle.std.proofs.Common.{refl, arith}
+use Rattle.std.proofs.Common.{arith, rules}
 use Rattle.packet.specs.Responses.{reply_bytes}
+use Rattle.packet.specs.Trips.{ReadAs, sent}
 use Rattle.packet.proofs.Trips.{one-read}
-use Rattle.packet.proofs.Writes.{room}
+use Rattle.packet.proofs.Writes.{written-as}
 use Rattle.packet.proofs.response.write_reply.Goals as goal
 
-pub returns : goal.returns
-returns c =
-    let bs = reply_bytes c.args.own c.args.reply in
-    let r = room bs bs c.args.out.now c.put_reply.new.out c.put_reply.result refl (omega arith)
-    c.put_reply.ensures.count c.put_reply.ensures.bytes in
-    record {
-      count = r.0;
-      bytes = r.1;
-      reads = one-read c.args.own c.args.reply _ (record { own-fits = omega arith; param_fits = omega arith; size_fits = omega arith }) r.2;
-    }
+pub returns-in-Some-clause-reads : goal.returns-in-Some-clause-reads
+returns-in-Some-clause-reads c =
+    let own = c.args.own in
+    let y = c.args.reply in
+    λ h. written-as (λ l. ReadAs l (sent own y)) (reply_bytes own y) c.args.out.now c.write.new.out c.write.result (search rules) (search rules)
+    (one-read own y (record { own-fits = omega arith; param_fits = omega arith; size_fits = omega arith }) h)

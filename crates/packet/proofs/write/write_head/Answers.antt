@@ -1,21 +1,9 @@
-use Rattle.std.proofs.Common.{sym, ap, ◌∙◌}
-use Rattle.packet.specs.Heads.{head_length}
-use Rattle.packet.specs.declared.form.Form.TheVariants.{Standard, Network}
-use Rattle.packet.proofs.Writes.{in-form}
+use Rattle.std.proofs.Common.{[], ◌∷◌, get_or, rules}
+use Rattle.packet.specs.declared.form.Form.TheVariants.{Network}
+use Rattle.packet.proofs.Writes.{headed}
 use Rattle.packet.proofs.write.write_head.Goals as goal
 
-pub returns-in-Standard : goal.returns-in-Standard
-returns-in-Standard c =
-    record {
-      count = ap head_length (sym c.in-Standard.is);
-      bytes = in-form Standard c.args.head _ c.args.out.now c.in-Standard.is
-          (c.copy_from_slice.ensures.after ∙ c.standard_bytes.ensures);
-    }
-
-pub returns-in-Network : goal.returns-in-Network
-returns-in-Network c =
-    record {
-      count = ap head_length (sym c.in-Network.is);
-      bytes = in-form (Network c.in-Network.terminal) c.args.head _ c.args.out.now c.in-Network.is
-          (c.copy_from_slice-in-Network.ensures.after ∙ c.network_bytes.ensures);
-    }
+pub returns-in-Network-clause-bytes : goal.returns-in-Network-clause-bytes
+returns-in-Network-clause-bytes c =
+    headed c.args.head (Network c.in-Network.terminal) (0x41 ∷ get_or c.to_le_bytes.result 0 0 ∷ get_or c.to_le_bytes.result 1 0 ∷ []) _ c.args.out.now c.write_closed-in-Network.new.out c.in-Network.is
+    (search rules) c.field_bytes-fields.ensures c.write_closed-in-Network.ensures.bytes

@@ -1,16 +1,9 @@
-use Rattle.std.proofs.Common.{◌<◌, refl, ◌∙◌, arith, rules}
-use Rattle.memory.proofs.Cases.{add-there, add-full}
+use Rattle.std.proofs.Common.{◌<◌, ◌∙◌, arith, rules}
+use Rattle.memory.proofs.Cases.{add-there}
 use Rattle.page_memory.specs.Contents.{held_by, room_of}
 use Rattle.page_memory.specs.Listed.{held-length}
 use Rattle.page_memory.proofs.Added.{added}
 use Rattle.page_memory.proofs.PageMemoryMemory.add.Goals as goal
-
-pub returns-then-self-capacity : goal.returns-then-self-capacity
-returns-then-self-capacity c =
-    let m = c.args.self.now in
-    let n = held-length m in
-    let y = add-full 256 (room_of m) (held_by m) c.args.id c.args.template.now c.if-id-eq0.false c.if-template-ne-T.false (omega arith) in
-    record { value = y.0; after = y.1; room_same = refl; pages = refl }
 
 pub invariant_of-self : goal.invariant_of-self
 invariant_of-self c =

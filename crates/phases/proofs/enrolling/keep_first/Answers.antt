@@ -1,14 +1,12 @@
-use Rattle.std.proofs.Common.{sym, refl}
-use Rattle.device.specs.View.{view}
+use Rattle.std.proofs.Common.{drop, length, sym, refl, ap, ◌∙◌}
 use Rattle.machine.specs.State.Phase.{first_finger}
-use Rattle.phases.specs.Told.{waiting_for}
-use Rattle.phases.proofs.Ends.{keeps}
+use Rattle.std.proofs.lemmas.List.{take_at}
 use Rattle.phases.proofs.enrolling.keep_first.Goals as goal
 
 pub returns : goal.returns
 returns g c =
-    let s = view g.M.Matcher g.S.Memory c.args.device.now in
-    let w = waiting_for c.args.device.now (first_finger c.args.enrollment) in
-    keeps s _ _ w c.args.enrollment g.S.Memory.size c.copy_from_slice.new.self _ c.args.scan.bytes.now c.args.scan.quality
-    c.wait_for.ensures c.copy_from_slice.ensures.after c.requires
-    (c.scanned_only-answers.ensures _ w refl (sym c.enroll_command.ensures))
+    let copied = c.copy_from_slice.ensures.after in
+    let behind = drop (length c.args.scan.bytes.now) c.args.device.now.first.bytes in
+    let long = ap length copied ∙ c.args.scan.long in
+    let whole = take_at c.copy_from_slice.new.self behind g.S.Memory.T long ∙ copied in
+    c.go_on.ensures (first_finger c.args.enrollment) _ (sym c.enroll_command-command.ensures) refl ∙ rw whole

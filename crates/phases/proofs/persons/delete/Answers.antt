@@ -1,18 +1,21 @@
-use Rattle.std.proofs.Common.{refl, ap, ◌∙◌}
-use Rattle.device.specs.View.{view}
+use Rattle.std.proofs.Common.{is_some, sym, refl, ap, ◌∙◌, arith}
 use Rattle.machine.specs.State.Phase.{person_to_delete}
-use Rattle.machine.specs.Waiting.{deleted}
-use Rattle.phases.specs.Told.{waiting_for}
 use Rattle.phases.proofs.persons.delete.Goals as goal
 
-pub returns-in-Some : goal.returns-in-Some
-returns-in-Some g c =
-    let s = view g.M.Matcher g.S.Memory c.args.device.now in
-    let w = waiting_for c.args.device.now (person_to_delete c.args.range) in
-    c.delete_found.ensures c.args.range c.in-Some.field-0-1 ∙ ap (deleted s w) (c.in-Some.ensures.enough c.requires)
+pub returns-in_default : goal.returns-in_default
+returns-in_default g c =
+    c.end.ensures (person_to_delete c.args.range) refl ∙ rw (← c.in_default.ensures.enough (omega arith))
 
-pub returns-in-None : goal.returns-in-None
-returns-in-None g c =
-    let s = view g.M.Matcher g.S.Memory c.args.device.now in
-    let w = waiting_for c.args.device.now (person_to_delete c.args.range) in
-    c.end.ensures w refl refl ∙ ap (deleted s w) (c.in-None.ensures.enough c.requires)
+pub returns-then-is_some : goal.returns-then-is_some
+returns-then-is_some g c =
+    let found = c.in-Some.ensures.enough (omega arith) in
+    let level = sym c.if-is_some.true ∙ c.is_some.ensures ∙ ap is_some c.level_of.ensures in
+    c.end-then-is_some.ensures (person_to_delete c.args.range) refl ∙ rw (← found, ← level)
+
+pub returns : goal.returns
+returns g c =
+    let found = c.in-Some.ensures.enough (omega arith) in
+    let level = sym c.if-is_some.false ∙ c.is_some.ensures ∙ ap is_some c.level_of.ensures in
+    c.end-2.ensures (person_to_delete c.args.range) refl
+    ∙ rw
+    (← found, ← level, c.from.ensures, c.delete_all_of.ensures.room_same, c.delete_all_of.ensures.after, c.strike.ensures)

@@ -1,23 +1,14 @@
-use Rattle.std.proofs.Common.{Some, vec_items, sym, ap, ◌∙◌, arith}
+use Rattle.std.proofs.Common.{vec_items, arith}
+use Rattle.std.proofs.lemmas.Bool.Decides.{nat_tests}
+use Rattle.std.proofs.lemmas.Grind.{common_steps}
 use Rattle.memory.specs.Held.{none}
-use Rattle.memory.proofs.Cases.{id_there, id-past}
-use Rattle.row_memory.specs.Rows.{held_in, row_at, rows_in}
-use Rattle.row_memory.specs.RowsLemmas.{rows-length, row-there}
+use Rattle.row_memory.specs.RowsLemmas.{rows_length, row-there}
 use Rattle.row_memory.proofs.RowMemoryMemory.id_at.Goals as goal
 
-pub returns-then-place-self : goal.returns-then-place-self
-returns-then-place-self c =
-    let s = c.args.self.now in
-    let p = c.args.place in
-    let bs = vec_items s.bytes in
-    let n = rows-length bs s.count in
-    ap Some (c.read_id.ensures ∙ ap (λ b. (held_in (row_at b p)).id) c.deref.ensures.value
-    ∙ sym (ap (λ e. e.id) (row-there bs s.count p none c.if-place-self.true)))
-    ∙ id_there (rows_in bs s.count) p (omega arith)
-
-pub returns-else-place-self : goal.returns-else-place-self
-returns-else-place-self c =
+pub returns : goal.returns
+returns c =
     let s = c.args.self.now in
     let bs = vec_items s.bytes in
-    let n = rows-length bs s.count in
-    id-past (rows_in bs s.count) c.args.place (omega arith)
+    let n = rows_length bs s.count in
+    let r = row-there bs s.count c.args.place none in
+    grind (arith, nat_tests, common_steps, r)

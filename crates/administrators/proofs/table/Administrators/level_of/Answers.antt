@@ -1,10 +1,10 @@
+use Rattle.std.proofs.Common.{◌∙◌}
 use Rattle.administrators.specs.Table.{rows_of}
-use Rattle.administrators.proofs.InUse.{level-there}
-use Rattle.administrators.proofs.Rows.{unlisted}
+use Rattle.administrators.proofs.Rows.{level-found, unlisted}
 use Rattle.administrators.proofs.table.Administrators.level_of.Goals as goal
 
-pub returns-in-Some : goal.returns-in-Some
-returns-in-Some c = level-there c.args.self.now c.args.id c.in-Some.at c.in-Some.ensures.value _
+pub returns-in_err-at : goal.returns-in_err-at
+returns-in_err-at c = c.from_residual.ensures ∙ unlisted c.args.id (rows_of c.args.self.now) c.in_err-at.ensures.value
 
-pub returns-in-None : goal.returns-in-None
-returns-in-None c = unlisted c.args.id 0 (rows_of c.args.self.now) c.in-None.ensures.value
+pub returns : goal.returns
+returns c = rw c.deref.ensures.0 (level-found c.args.id _ c.in_ok-at.at (rows_of c.args.self.now) c.in_ok-at.ensures.value)

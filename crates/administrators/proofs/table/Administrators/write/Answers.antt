@@ -1,48 +1,44 @@
-use Rattle.std.proofs.Common.{◌≡◌, true, false, ltb, length, is_some, ap, ◌∙◌, arith}
-use Rattle.std.proofs.lemmas.Bool.{le-ltb, lt-ltb}
-use Rattle.machine.specs.Administrators.{level_of}
+use Rattle.std.proofs.Common.{ap, ◌∙◌}
+use Rattle.administrators.specs.Apart.{apart}
 use Rattle.administrators.specs.Table.{rows_of}
-use Rattle.administrators.proofs.InUse.{in_use, level-there, one-changed, one_more}
-use Rattle.administrators.proofs.Rows.{unlisted}
+use Rattle.administrators.proofs.Rows.{apart-changed, missing, one_changed, one_more, there}
 use Rattle.administrators.proofs.table.Administrators.write.Goals as goal
 
 pub invariant_of-self : goal.invariant_of-self
 invariant_of-self c =
     let t = c.args.self.now in
     let s =
-    one-changed t c.args.id c.in-Some.at c.in-Some.ensures.value _ c.args.level c.set_level.new.self
-    c.set_level.ensures in
-    record { long = s.0; within = t.within; distinct = s.1 }
+    one_changed t c.args.id c.args.level c.in-Some.at c.in-Some.ensures.value c.deref_mut.result.now c.set_level.new.self _
+    c.deref_mut.ensures.value c.set_level.ensures in
+    record { distinct = ap apart s ∙ apart-changed c.args.id c.args.level (rows_of t) ∙ t.distinct }
 
-pub invariant_of-self-then-self-lt-ROWS : goal.invariant_of-self-then-self-lt-ROWS
-invariant_of-self-then-self-lt-ROWS c =
-    let s =
-    one_more c.args.self.now (record { id = c.args.id; level = c.args.level }) c.in-None.ensures.value c.if-self-lt-ROWS.true in
-    record { long = s.0; within = omega arith; distinct = s.1 }
+pub returns-in-Some-clause-value : goal.returns-in-Some-clause-value
+returns-in-Some-clause-value c =
+    rw (← there c.args.self.now c.args.id c.args.level c.in-Some.at c.in-Some.ensures.value c.set_level.new.self)
 
-pub returns-in-Some : goal.returns-in-Some
-returns-in-Some c =
+pub returns-in-Some-clause-after : goal.returns-in-Some-clause-after
+returns-in-Some-clause-after c =
     let t = c.args.self.now in
-    let s =
-    one-changed t c.args.id c.in-Some.at c.in-Some.ensures.value _ c.args.level c.set_level.new.self
-    c.set_level.ensures in
-    let there : true ≡ is_some (level_of c.args.id (rows_of t)) =
-    ap is_some (level-there t c.args.id c.in-Some.at c.in-Some.ensures.value c.set_level.new.self) in
-    record { value = rw (← there); after = s.2 ∙ rw (← there) }
+    one_changed t c.args.id c.args.level c.in-Some.at c.in-Some.ensures.value c.deref_mut.result.now c.set_level.new.self _
+    c.deref_mut.ensures.value c.set_level.ensures
+    ∙ rw (← there t c.args.id c.args.level c.in-Some.at c.in-Some.ensures.value c.set_level.new.self)
 
-pub returns-in-None : goal.returns-in-None
-returns-in-None c =
-    let t = c.args.self.now in
-    let n = in_use t in
-    let s = one_more t (record { id = c.args.id; level = c.args.level }) c.in-None.ensures.value c.if-self-lt-ROWS.true in
-    let new : false ≡ is_some (level_of c.args.id (rows_of t)) = ap is_some (unlisted c.args.id 0 (rows_of t) c.in-None.ensures.value) in
-    let room : ltb (length (rows_of t)) 16 ≡ true = lt-ltb (length (rows_of t)) 16 (omega arith) in
-    record { value = rw (← new, room); after = s.2 ∙ rw (← new, room) }
+pub invariant_of-self-in-None : goal.invariant_of-self-in-None
+invariant_of-self-in-None c =
+    let s = one_more c.args.self.now c.args.id c.args.level c.try_push.result c.try_push.new.self c.in-None.ensures.value
+    c.try_push.ensures.variant c.try_push.ensures.ok c.try_push.ensures.err c.try_push.ensures.full in
+    record { distinct = s.0 }
 
-pub returns-in-None-2 : goal.returns-in-None-2
-returns-in-None-2 c =
+pub returns-in-None-clause-value : goal.returns-in-None-clause-value
+returns-in-None-clause-value c =
     let t = c.args.self.now in
-    let n = in_use t in
-    let new : false ≡ is_some (level_of c.args.id (rows_of t)) = ap is_some (unlisted c.args.id 0 (rows_of t) c.in-None.ensures.value) in
-    let full : ltb (length (rows_of t)) 16 ≡ false = le-ltb (length (rows_of t)) 16 (omega arith) in
-    record { value = rw (← new, full); after = rw (← new, full) }
+    let s = one_more t c.args.id c.args.level c.try_push.result c.try_push.new.self c.in-None.ensures.value
+    c.try_push.ensures.variant c.try_push.ensures.ok c.try_push.ensures.err c.try_push.ensures.full in
+    c.is_ok.ensures.value ∙ rw (← missing t c.args.id c.args.level c.in-None.ensures.value) s.1
+
+pub returns-in-None-clause-after : goal.returns-in-None-clause-after
+returns-in-None-clause-after c =
+    let t = c.args.self.now in
+    let s = one_more t c.args.id c.args.level c.try_push.result c.try_push.new.self c.in-None.ensures.value
+    c.try_push.ensures.variant c.try_push.ensures.ok c.try_push.ensures.err c.try_push.ensures.full in
+    rw (← missing t c.args.id c.args.level c.in-None.ensures.value) s.2

@@ -11,8 +11,8 @@ returns g c =
     let P : State → Type 0 = λ v. Run [] v in
     record {
       made = c.new.ensures;
-      begins = subst P (sym c.new.ensures) (begins (g.M.Matcher.yes c.args.matcher) g.S.Memory.size (g.S.Memory.room c.args.memory) c.args.own);
-      promises = always-promised (g.M.Matcher.yes c.args.matcher) g.S.Memory.size (g.S.Memory.room c.args.memory) c.args.own [];
+      begins = subst P (sym c.new.ensures) (begins (g.M.Matcher.yes c.args.matcher) g.S.Memory.T (g.S.Memory.room c.args.memory) c.args.own);
+      promises = always-promised (g.M.Matcher.yes c.args.matcher) g.S.Memory.T (g.S.Memory.room c.args.memory) c.args.own [];
     }
 
 pub invariant_of-result : goal.invariant_of-result

@@ -15,7 +15,7 @@ invariant_of-self g c =
     let m = c.args.self.now in
     let v = state g.M.Matcher g.S.Memory m in
     let w = view g.M.Matcher g.S.Memory c.hear.new.device in
-    let k = call (event_of c.args.input) c.args.out.now c.args.work.now in
+    let k = call (event_of c.args.event) c.args.out.now c.args.work.now in
     let h = c.hear.ensures (ready v m.reached) in
     record { reached = leads v k w (h.next ∙ ap (next_of v) (sym (within v k c.requires.in_bounds c.requires.in_bounds_2))) m.reached }
 
@@ -23,7 +23,7 @@ pub returns-in_err-answers : goal.returns-in_err-answers
 returns-in_err-answers g c =
     let v = state g.M.Matcher g.S.Memory c.args.self.now in
     let w = view g.M.Matcher g.S.Memory c.hear.new.device in
-    let k = call (event_of c.args.input) c.args.out.now c.args.work.now in
+    let k = call (event_of c.args.event) c.args.out.now c.args.work.now in
     let p = err_from_is_err_and c.from_residual.result c.from_residual.ensures.1 in
     let R : Result Answer Refusal → Type 0 = λ a. Shows v k.event (step_of v k) a w k.out k.out in
     record {
@@ -36,7 +36,7 @@ pub returns : goal.returns
 returns g c =
     let v = state g.M.Matcher g.S.Memory c.args.self.now in
     let w = view g.M.Matcher g.S.Memory c.hear.new.device in
-    let k = call (event_of c.args.input) c.args.out.now c.args.work.now in
+    let k = call (event_of c.args.event) c.args.out.now c.args.work.now in
     record {
       shows = answered v k w (within v k c.requires.in_bounds c.requires.in_bounds_2) _ _ _ _
           (c.in_ok-answers.ensures (ready v c.args.self.now.reached)) c.write_answers-count.ensures

@@ -43,7 +43,7 @@ fn with_memory<M: Matcher + Drop>(
     matcher: M,
 ) -> anyhow::Result<()> {
     let heap = rt.alloc();
-    match options.memory {
+    match options.memory() {
         MemoryKind::Pages(count) => {
             let bytes = vec![in heap; 0u8; usize::from(count) * PAGE]?;
             serve(

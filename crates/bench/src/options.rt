@@ -1,4 +1,5 @@
-ghost use Rattle.std.specs.Prelude.{◌≡◌, not, is_some, is_ok, if◌then◌else◌, Some};
+ghost use Rattle.std.specs.Prelude.{◌≡◌, not, is_some, is_ok, if◌then◌else◌, unwrap_or, Some};
+ghost use Rattle.bench.specs.declared.options.MemoryKind.TheVariants.{Pages};
 
 use anyhow::{Context, anyhow};
 use std::env;
@@ -31,20 +32,12 @@ impl FromStr for MatcherKind {
     }
 }
 
-/// What the module is made of.
+/// What the module is made of; a memory that is not given has its default.
 #[derive(Clone, Copy)]
 pub(crate) struct Options {
-    pub memory: MemoryKind,
+    memory: Option<MemoryKind>,
     pub matcher: MatcherKind,
     pub number: u16,
-}
-
-/// The arguments so far; what is not given has a default.
-#[derive(Clone, Copy)]
-struct Given {
-    memory: Option<MemoryKind>,
-    matcher: MatcherKind,
-    number: u16,
 }
 
 fn number_of(value: &str) -> anyhow::Result<u16> {
@@ -52,7 +45,14 @@ fn number_of(value: &str) -> anyhow::Result<u16> {
     number.context("--pages, --rows and --number want a number from 0 to 65535")
 }
 
-impl Given {
+impl Options {
+    /// The memory that was asked for.
+    pub fn memory(self) -> MemoryKind
+        ensures { result ≡ unwrap_or self.memory (Pages 16) }
+    {
+        self.memory.unwrap_or(MemoryKind::Pages(16))
+    }
+
     /// A module has one memory: a second is no correction of the first.
     fn set_memory(&mut self, kind: MemoryKind) -> anyhow::Result<()>
         ensures first { is_ok result ≡ not (is_some self.old.memory) }
@@ -79,7 +79,7 @@ impl Given {
 
 /// Reads the arguments: each a name and a value.
 pub(crate) fn read_options(rt: &HostRuntime) -> anyhow::Result<Options> {
-    let mut given = Given {
+    let mut options = Options {
         memory: None,
         matcher: MatcherKind::Byte,
         number: 1,
@@ -89,11 +89,7 @@ pub(crate) fn read_options(rt: &HostRuntime) -> anyhow::Result<Options> {
         let [name, value] = pair else {
             return Err(anyhow!("{USAGE}"));
         };
-        given.set(name.as_str(), value.as_str())?;
+        options.set(name.as_str(), value.as_str())?;
     }
-    Ok(Options {
-        memory: given.memory.unwrap_or(MemoryKind::Pages(16)),
-        matcher: given.matcher,
-        number: given.number,
-    })
+    Ok(options)
 }

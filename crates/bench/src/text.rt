@@ -58,10 +58,7 @@ fn write_given(
         ≡ text.old.items ++ given_text given out.now) }
 {
     match given {
-        Ok(answer) => {
-            let count = answer.count.min(out.len());
-            write_answer(text, answer.outcomes, &out[..count])
-        }
+        Ok(answer) => write_answer(text, answer.outcomes, answer.written(out)),
         Err(refusal) => write_refusal(text, refusal),
     }
 }

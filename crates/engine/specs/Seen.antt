@@ -13,7 +13,7 @@ use Rattle.engine.specs.declared.answer.Answer.{Answer}
 use Rattle.engine.specs.declared.answer.Outcomes.{Outcomes}
 use Rattle.engine.specs.declared.answer.Outcomes.TheVariants.{Nothing, One, Two}
 use Rattle.std.specs.Borrow.{Bor}
-use Rattle.phases.specs.declared.scan.Event.{Event as Input}
+use Rattle.phases.specs.declared.scan.Event.{Event as Given}
 use Rattle.phases.specs.declared.scan.Event.TheVariants.{Packet, Finger, Second}
 use Rattle.phases.specs.declared.scan.Scan.{Scan}
 use Rattle.engine.specs.declared.inner.Module.{Module}
@@ -27,7 +27,7 @@ abbrev pub call : Event → List ℕ → List ℕ → Call
 call e out work = record { event = e; out = out; work = work }
 
 -- what a call is given, as the machine's event
-abbrev pub event_of : Input (Bor (List ℕ)) Scan → Event
+abbrev pub event_of : Given (Bor (List ℕ)) Scan → Event
 event_of (Packet frame) = packet frame.now
 event_of (Finger scan) = finger scan.bytes.now scan.quality
 event_of Second = second

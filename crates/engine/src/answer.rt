@@ -1,3 +1,5 @@
+ghost use Rattle.std.specs.Prelude.{◌≡◌, take};
+
 use packet::Outcome;
 
 /// The outcomes of a call, in their order.
@@ -13,4 +15,13 @@ pub enum Outcomes {
 pub struct Answer {
     pub outcomes: Outcomes,
     pub count: usize,
+}
+
+impl Answer {
+    /// What the call wrote, at the front of the answer buffer that it was lent.
+    pub fn written(self, out: &[u8]) -> &[u8]
+        ensures { result.now ≡ take self.count out.now }
+    {
+        &out[..self.count.min(out.len())]
+    }
 }

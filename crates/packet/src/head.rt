@@ -7,7 +7,7 @@ use crate::fields::number16;
 use crate::form::{END_CODE, Form, Head, NETWORK_START, STANDARD_START};
 use codes::Refusal;
 
-/// The refusal for the first test of a packet that failed, if any did.
+/// Refuses a packet for the first of the tests that failed.
 fn no_flaw(start: bool, end: bool, sum: bool) -> Result<(), Refusal>
     ensures { result ≡ unless (flaw start end sum) tt }
 {

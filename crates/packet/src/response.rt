@@ -114,10 +114,7 @@ impl<'a> Reply<'a> {
     fn length(self, own: u16) -> usize
         ensures { result ≡ length (reply_bytes own self.entry) }
     {
-        match self.packet(own) {
-            None => 0,
-            Some(packet) => packet.length(),
-        }
+        self.packet(own).map_or(0, |packet| packet.length())
     }
 }
 
@@ -129,10 +126,10 @@ pub fn write_reply(out: &mut [u8], own: u16, reply: Reply<'_>) -> Option<usize>
     ensures reads { Proper reply.entry
         → IfSome result (λ n. ReadAs (take n out.new) (sent own reply.entry)) }
 {
-    match reply.packet(own) {
-        None => Some(0),
-        Some(packet) => packet.write(out),
-    }
+    let Some(packet) = reply.packet(own) else {
+        return Some(0);
+    };
+    packet.write(out)
 }
 
 /// Writes two replies, the second right behind the first, and says how many bytes they take.

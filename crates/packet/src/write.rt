@@ -84,9 +84,9 @@ impl Packet<'_> {
             return None;
         }
         let n = write_head(out, self.head);
-        match self.data {
-            None => Some(n),
-            Some(data) => Some(n + write_data(&mut out[n..], data)),
-        }
+        let Some(data) = self.data else {
+            return Some(n);
+        };
+        Some(n + write_data(&mut out[n..], data))
     }
 }

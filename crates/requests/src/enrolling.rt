@@ -15,7 +15,7 @@ ghost use Rattle.std.specs.Option.{ok_or};
 ghost use Rattle.std.specs.Result.{result_err};
 
 use crate::answer::answer;
-use crate::fields::{flag_in, id_in};
+use crate::fields::{flag_in, free_places, id_in};
 use administrators::Right;
 use codes::{Code, EnrollFlag};
 use device::{Answers, Awaited, Device, LONGEST_TEMPLATE, enroll_one};
@@ -53,12 +53,11 @@ fn no_fault<M: Matcher, S: Memory>(
     ensures { result_err result ≡ enroll_fault (view M.Matcher S.Memory device.now) flag id needed }
 {
     let held = count_of(&device.memory, id);
-    let free = (device.memory.capacity() - device.memory.count()) as u32;
     match flag {
         EnrollFlag::CheckId if held != 0 => Err(Code::ExistId),
         EnrollFlag::AddNew | EnrollFlag::CheckFinger
             if held.saturating_add(needed) > MOST_TEMPLATES => { Err(Code::FingerLimit) }
-        _ if free < needed => Err(Code::MemFull),
+        _ if free_places(&device.memory) < needed => Err(Code::MemFull),
         _ => Ok(()),
     }
 }

@@ -1,4 +1,4 @@
-ghost use Rattle.std.specs.Prelude.{◌≡◌};
+ghost use Rattle.std.specs.Prelude.{◌≡◌, ◌-◌, length};
 ghost use Rattle.codes.specs.Numbers.{case_of};
 ghost use Rattle.codes.specs.declared.code.Code.TheVariants.{InvalidId, Unsupported};
 ghost use Rattle.device.specs.View.{view};
@@ -38,6 +38,13 @@ pub(crate) fn held_id<M: Matcher, S: Memory>(device: &Device<M, S>, param: u32) 
         return Err(Code::NotFound);
     }
     Ok(id)
+}
+
+/// How many places are free.
+pub(crate) fn free_places<S: Memory>(memory: &S) -> u32
+    ensures { result ≡ S.Memory.room memory.now - length (S.Memory.held memory.now) }
+{
+    (memory.capacity() - memory.count()) as u32
 }
 
 /// The range in Param: 0 for all IDs, or the least in the low half and the greatest in the high half.

@@ -4,7 +4,7 @@ ghost use Rattle.machine.specs.Requests.{parameter_value, read_parameter, write_
 ghost use Rattle.requests.specs.Ending.{KeptOnErr, Obeys};
 
 use crate::answer::{answer, just};
-use crate::fields::flag_in;
+use crate::fields::{flag_in, free_places};
 use codes::{Code, Parameter};
 use device::{Answers, Device};
 use machine::Setting;
@@ -37,7 +37,7 @@ fn value_of<M: Matcher, S: Memory>(device: &Device<M, S>, parameter: Parameter) 
         Parameter::SecurityLevel => u32::from(u8::from(device.settings.security)),
         Parameter::ModuleId => u32::from(device.own),
         Parameter::EnrolledFinger => device.memory.count() as u32,
-        Parameter::AvailableFinger => (device.memory.capacity() - device.memory.count()) as u32,
+        Parameter::AvailableFinger => free_places(&device.memory),
         Parameter::SendScanSuccess => device.settings.scans as u32,
         Parameter::NetworkMode => device.settings.network as u32,
     }

@@ -26,11 +26,9 @@ pub fn strike<R: Keyed>(rows: &mut [R], key: u16) -> bool
     ensures value { result ≡ is_some (place_of R.Keyed.key_of key rows.old) }
     ensures after { rows.new ≡ struck R.Keyed.key_of key rows.old }
 {
-    match find(rows, key) {
-        Some(at) => {
-            rows[at..].rotate_left(1);
-            true
-        }
-        None => false,
-    }
+    let Some(at) = find(rows, key) else {
+        return false;
+    };
+    rows[at..].rotate_left(1);
+    true
 }

@@ -1,5 +1,5 @@
 -- The searches answer what the laws say in words of places and IDs.
-use Rattle.std.proofs.Common.{◌≡◌, ℕ, zero, suc, ◌+◌, ◌<◌, ◌≤◌, Bool, true, false, cond, eqb, leb, ◌≢◌, ◌⊎◌, List, [], ◌∷◌, ◌++◌, length, Some, Option, sym, refl, ap, ◌∙◌, subst, inl, inr, ⊎_elim, arith}
+use Rattle.std.proofs.Common.{◌≡◌, ℕ, zero, suc, ◌+◌, ◌<◌, ◌≤◌, Bool, true, false, cond, ◌&&◌, ◌||◌, eqb, leb, ◌≢◌, ◌⊎◌, List, [], ◌∷◌, ◌++◌, length, is_some, Some, None, Option, sym, refl, ap, ◌∙◌, subst, inl, inr, ⊎_elim, arith}
 use Rattle.std.proofs.lemmas.List.{append-nil, append_assoc, get_or_at, length-append, length_push, take_at}
 use Rattle.std.proofs.lemmas.List.Sums.{sum_by-cons}
 use Rattle.std.proofs.lemmas.Bool.{cases_lt, cases_eq, cases_Bool, eqb-true, eqb-false}
@@ -7,7 +7,7 @@ use Rattle.std.proofs.lemmas.Bool.Decides.{nat_tests}
 use Rattle.memory.specs.Held.{Held, none, held_at}
 use Rattle.search.specs.Ids.{count_of, free_from, lowest_free}
 use Rattle.search.specs.Laws.{FindsOldest, IsOldest, IsLowestFree}
-use Rattle.search.specs.Oldest.{oldest, oldest_from}
+use Rattle.search.specs.Oldest.{any_of, oldest, oldest_from, passes}
 
 module _ (ok : Held → Bool) where
   -- none of the older templates passes
@@ -146,3 +146,19 @@ lowest-free h = record {
 
 pub lowest-within : (h : List Held) → lowest_free h ≤ 1 + length h
 lowest-within h = (free-between h 1 (length h)).1
+
+-- something is found among all IDs exactly if some template agrees
+module _ (agrees : List ℕ → Bool) where
+  found-agrees : (older h : List Held) → is_some (oldest_from (passes (λ _. true) agrees) older h) ≡ any_of (λ e. agrees e.template) h
+  found-agrees older [] = refl
+  found-agrees older (e ∷ h) = at (agrees e.template) (found-agrees (older ++ e ∷ []) h)
+    where
+      at : (b : Bool) → is_some (oldest_from (passes (λ _. true) agrees) (older ++ e ∷ []) h) ≡ any_of (λ x. agrees x.template) h
+          → is_some (cond b (Some (e.id, count_of e.id older)) (oldest_from (passes (λ _. true) agrees) (older ++ e ∷ []) h))
+          ≡ b || any_of (λ x. agrees x.template) h
+      at true r = refl
+      at false r = r
+
+  pub some-agrees : (room : Bool) (h : List Held) → is_some (cond room (oldest (passes (λ _. true) agrees) h) None) ≡ room && any_of (λ e. agrees e.template) h
+  some-agrees true h = found-agrees [] h
+  some-agrees false h = refl

@@ -30,7 +30,7 @@ pub fn count_of<S: Memory>(memory: &S, id: u16) -> u32
     ensures { result ≡ count_of id (S.Memory.held memory.now) }
 {
     (0..memory.count())
-        .filter(|place| is_at(memory, *place, id))
+        .filter(|at| is_at(memory, *at, id))
         .count() as u32
 }
 

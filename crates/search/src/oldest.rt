@@ -4,7 +4,7 @@ ghost use Rattle.search.specs.Laws.{FindsOldest};
 ghost use Rattle.search.specs.Oldest.{any_of, oldest, passes};
 ghost use Rattle.search.specs.Sought.{agrees_in, held_in};
 
-use crate::allowed::Allowed;
+use crate::allowed::{Allowed, Everyone};
 use crate::ids::{MOST_TEMPLATES, count_in};
 use matcher::{Matcher, Strictness};
 use memory::Memory;
@@ -27,12 +27,11 @@ impl<'a, M: Matcher, S: Memory> Search<'a, M, S> {
         ensures { result ≡ agrees_in M.Matcher self.now
             (held_at (held_in S.Memory self.now) place).template }
     {
-        match self.memory.copy_at(place, work) {
-            Some(size) => self
-                .matcher
-                .agrees(&work[0..size], self.scan, self.strictness),
-            None => false,
-        }
+        let Some(size) = self.memory.copy_at(place, work) else {
+            return false;
+        };
+        self.matcher
+            .agrees(&work[0..size], self.scan, self.strictness)
     }
 
     /// The oldest template that agrees, of an ID that is allowed: its ID, and its number within that ID.
@@ -68,14 +67,6 @@ impl<'a, M: Matcher, S: Memory> Search<'a, M, S> {
             (λ e. agrees_in M.Matcher self.now e.template)
             (held_in S.Memory self.now) }
     {
-        if work.len() < S::T {
-            return false;
-        }
-        for place in 0..self.memory.count() {
-            if self.agrees_at(place, work) {
-                return true;
-            }
-        }
-        false
+        self.oldest(&Everyone, work).is_some()
     }
 }

@@ -29,8 +29,7 @@ pub(crate) fn refused(refusal: Refusal) -> anyhow::Error {
 
 /// What a call wrote at the front of the answer buffer.
 fn written(answer: Result<Answer, Refusal>, out: &[u8]) -> anyhow::Result<&[u8]> {
-    let count = answer.map_err(refused)?.count;
-    Ok(&out[..count.min(out.len())])
+    Ok(answer.map_err(refused)?.written(out))
 }
 
 impl Bench {

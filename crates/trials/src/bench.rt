@@ -95,7 +95,7 @@ fn ended_with(answer: Answer, out: &[u8], code: Code) -> Result<Given<'_>, Fail>
     }
     Ok(Given {
         size: last.size,
-        written: &out[..answer.count.min(out.len())],
+        written: answer.written(out),
     })
 }
 

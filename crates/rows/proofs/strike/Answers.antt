@@ -3,6 +3,6 @@ use Rattle.rows.specs.Rows.{struck_at}
 use Rattle.rows.proofs.Places.{turned}
 use Rattle.rows.proofs.strike.Goals as goal
 
-pub returns-in-Some-clause-after : goal.returns-in-Some-clause-after
-returns-in-Some-clause-after g c =
+pub returns-clause-after : goal.returns-clause-after
+returns-clause-after g c =
     turned c.args.rows.now c.rotate_left.new.self c.in-Some.at c.rotate_left.ensures.after ∙ ap (struck_at c.args.rows.now) c.in-Some.ensures.value

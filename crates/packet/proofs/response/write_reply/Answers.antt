@@ -5,8 +5,8 @@ use Rattle.packet.proofs.Trips.{one-read}
 use Rattle.packet.proofs.Writes.{written-as}
 use Rattle.packet.proofs.response.write_reply.Goals as goal
 
-pub returns-in-Some-clause-reads : goal.returns-in-Some-clause-reads
-returns-in-Some-clause-reads c =
+pub returns-clause-reads : goal.returns-clause-reads
+returns-clause-reads c =
     let own = c.args.own in
     let y = c.args.reply in
     λ h. written-as (λ l. ReadAs l (sent own y)) (reply_bytes own y) c.args.out.now c.write.new.out c.write.result (search rules) (search rules)

@@ -123,14 +123,14 @@ module _ (t : Administrators) (id : ℕ) (level : Level) where
       → (IsOk r ↔ (length (rows_of t) < 16)) → OnOk r (new.items ≡ rows_of t ++ (record { id = id; level = level }) ∷ [])
       → OnErr r (new ≡ t.rows) → OnErr r (length (rows_of t) ≡ 16)
       → (apart new.items ≡ true)
-      × (is_ok r ≡ ltb (length (rows_of t)) 16)
+      × (is_ok r ≡ cond (ltb (length (rows_of t)) 16) true false)
       × (new.items ≡ cond (ltb (length (rows_of t)) 16) (rows_of t ++ (record { id = id; level = level }) ∷ []) (rows_of t))
   one_more (Ok u) new e room pushed same full =
       let free : ltb (length (rows_of t)) 16 ≡ true = lt-ltb (length (rows_of t)) 16 (room.0 refl) in
-      (ap apart pushed ∙ apart-push (record { id = id; level = level }) (rows_of t) (sym (missing e)) t.distinct, sym free, rw free pushed)
+      (ap apart pushed ∙ apart-push (record { id = id; level = level }) (rows_of t) (sym (missing e)) t.distinct, rw free, rw free pushed)
   one_more (Err x) new e room pushed same full =
       let none : ltb (length (rows_of t)) 16 ≡ false = le-ltb (length (rows_of t)) 16 (omega arith) in
-      (ap (λ v. apart v.items) same ∙ t.distinct, sym none, rw none (ap (λ v. v.items) same))
+      (ap (λ v. apart v.items) same ∙ t.distinct, rw none, rw none (ap (λ v. v.items) same))
 
 -- `slice` is what a strike leaves of the rows that it was lent
 module _ (t : Administrators) (id : ℕ) (lent slice : List AdminRow) (same : lent ≡ rows_of t)

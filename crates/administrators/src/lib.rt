@@ -1,10 +1,10 @@
 //! The table of administrators: at most 16 rows, each an ID and what it may do.
 #![tactic(auto)]
 
-ghost use Rattle.std.specs.Prelude.{◌≡◌, ◌<◌, cond, ◌||◌, [], ◌∷◌, ◌++◌, length, is_some, IfSome, nat_lt};
+ghost use Rattle.std.specs.Prelude.{◌≡◌, ◌<◌, true, false, [], length, IfSome};
 ghost use Rattle.administrators.specs.Rights.{permits};
 ghost use Rattle.administrators.specs.Table.{rows_of};
-ghost use Rattle.machine.specs.Administrators.{any_admin, changed, level_of, struck};
+ghost use Rattle.machine.specs.Administrators.{any_admin, level_of, struck, written};
 ghost use Rattle.rows.specs.Rows.{place_of};
 
 use arrayvec::ArrayVec;
@@ -54,13 +54,8 @@ impl Administrators {
 
     /// Gives the ID the level: in its row, or in a new one behind the others. False where there is no row for it.
     pub fn write(&mut self, id: u16, level: Level) -> bool
-        ensures value { result ≡ (is_some (level_of id (rows_of self.old))
-            || nat_lt (length (rows_of self.old)) 16) }
-        ensures after { rows_of self.new ≡ cond (is_some (level_of id (rows_of self.old)))
-            (changed id level (rows_of self.old))
-            (cond (nat_lt (length (rows_of self.old)) 16)
-            (rows_of self.old ++ (record { id = id; level = level }) ∷ [])
-            (rows_of self.old)) }
+        ensures value { result ≡ written id level (rows_of self.old) false (λ _. true) }
+        ensures after { rows_of self.new ≡ written id level (rows_of self.old) (rows_of self.old) (λ rows. rows) }
     {
         match self.place_of(id) {
             Some(at) => {

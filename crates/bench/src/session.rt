@@ -1,6 +1,8 @@
 ghost use Rattle.std.specs.Prelude.{◌≡◌, None, OnOk};
-ghost use Rattle.bench.specs.Shown.{Shown};
-ghost use Rattle.benchline.specs.Lines.{bench_line};
+ghost use Rattle.bench.specs.Shown.{event_of, line_next, line_text};
+ghost use Rattle.benchline.specs.Lines.{bench_line, seen};
+ghost use Rattle.engine.specs.Seen.{call, state};
+ghost use Rattle.engine.specs.Shows.{Served};
 
 use crate::text::write_printed;
 use benchline::{Line, read_line};
@@ -30,7 +32,11 @@ fn call<M: Matcher, S: Memory>(
     asked: Line<'_>,
     out: &mut [u8],
     work: &mut [u8],
-) -> Result<Answer, Refusal> {
+) -> Result<Answer, Refusal>
+    ensures { Served (state M.Matcher S.Memory «module».old)
+        (call (event_of (seen asked.entry)) out.old work.old) result
+        (state M.Matcher S.Memory «module».new) out.new work.new }
+{
     match asked {
         Line::Packet(frame) => module.packet(frame, out, work),
         Line::Finger { quality, scan } => module.finger(scan, quality, out, work),
@@ -50,10 +56,13 @@ impl<M: Matcher, S: Memory> Session<M, S> {
         }
     }
 
-    /// Takes a line, and puts what is printed for it into `text`. An ill-formed line leaves the module as it is.
+    /// Takes a line, and puts what is printed for it into `text`: what the machine answers to what the line asks.
+    /// An ill-formed line leaves the module as it is.
     pub fn take_line(&mut self, line: &[u8], text: &mut Vec<u8>) -> Result<(), AllocError>
-        ensures shown { OnOk result (Shown
-            line.now text.new.items self.new.out) }
+        ensures shown { OnOk result (text.new.items
+            ≡ line_text (state M.Matcher S.Memory self.old.«module») line.now) }
+        ensures next { OnOk result (state M.Matcher S.Memory self.new.«module»
+            ≡ line_next (state M.Matcher S.Memory self.old.«module») line.now) }
         ensures kept { bench_line line.now ≡ None
             → self.new.«module» ≡ self.old.«module» }
     {

@@ -1,7 +1,9 @@
 //! What is printed for a line, as bytes of text. Each function writes behind the text that it is lent.
 
 ghost use Rattle.std.specs.Prelude.{◌≡◌, [], ◌∷◌, ◌++◌, OnOk};
-ghost use Rattle.bench.specs.Printed.{answer_text, given_text, outcome_text, outcomes_text, printed, refusal_text};
+ghost use Rattle.bench.specs.Printed.{given_text, printed};
+ghost use Rattle.engine.specs.Seen.{listed};
+ghost use Rattle.machine.specs.Printed.{answer_text, outcome_text, outcomes_text, refusal_text};
 
 use codes::Refusal;
 use digits::write_hex;
@@ -18,7 +20,7 @@ fn write_outcome(text: &mut Vec<u8>, outcome: Outcome) -> Result<(), AllocError>
 
 /// Writes outcomes, with a blank between two.
 fn write_outcomes(text: &mut Vec<u8>, outcomes: Outcomes) -> Result<(), AllocError>
-    ensures { OnOk result (text.new.items ≡ text.old.items ++ outcomes_text outcomes) }
+    ensures { OnOk result (text.new.items ≡ text.old.items ++ outcomes_text (listed outcomes)) }
 {
     match outcomes {
         Outcomes::Nothing => Ok(()),
@@ -34,7 +36,7 @@ fn write_outcomes(text: &mut Vec<u8>, outcomes: Outcomes) -> Result<(), AllocErr
 /// Writes outcomes, a colon and the bytes that were written.
 fn write_answer(text: &mut Vec<u8>, outcomes: Outcomes, written: &[u8]) -> Result<(), AllocError>
     ensures { OnOk result (text.new.items
-        ≡ text.old.items ++ answer_text outcomes written.now) }
+        ≡ text.old.items ++ answer_text (listed outcomes) written.now) }
 {
     write_outcomes(text, outcomes)?;
     text.push(b':')?;

@@ -3,7 +3,7 @@ use Rattle.std.proofs.Common.{◌≡◌, ℕ, ◌+◌, ◌-◌, ◌<◌, cond, e
 use Rattle.memory.specs.Held.{Held, held_at, id_at, none, remove_after}
 use Rattle.machine.specs.Searches.{without}
 use Rattle.std.specs.List.{remove}
-use Rattle.std.proofs.lemmas.List.{append-nil, append_assoc, drop_all, drop_more, length-append, length-take-le, take_all, take_more}
+use Rattle.std.proofs.lemmas.List.{append_assoc, drop_more, length-append, length-take-le, take_more}
 use Rattle.std.proofs.lemmas.List.Edits.{remove-append_right}
 use Rattle.std.proofs.Math.Seq.{get_or-append_seam}
 use Rattle.std.proofs.lemmas.Bool.{eq-eqb, lt-ltb, ne_eqb}
@@ -11,11 +11,6 @@ use Rattle.std.proofs.lemmas.Bool.{eq-eqb, lt-ltb, ne_eqb}
 -- from the place on no template of the ID is left, and nothing else was taken out
 abbrev pub Cleared : ℕ → List Held → ℕ → List Held → Type 0
 Cleared id before place now = now ≡ take place before ++ without id (drop place before)
-
-pub uncleared : (id : ℕ) (before : List Held) (place : ℕ) → length before ≡ place → Cleared id before place before
-uncleared id before place all =
-    sym (append-nil before) ∙ ap (λ h. h ++ []) (sym (take_all place before (omega arith)))
-    ∙ ap (λ h. take place before ++ without id h) (sym (drop_all place before (omega arith)))
 
 module _ (id : ℕ) (before h : List Held) (place : ℕ) (inside : place < length before) (k : Cleared id before (place + 1) h) where
   abbrev e : Held

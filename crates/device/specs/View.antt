@@ -68,9 +68,13 @@ view f g d = record {
   waiting = waiting_of d.form d.left (phase_of g.T d.first d.awaited);
 }
 
+-- the IDs of at most `most` templates from a place on
+abbrev pub block_of : ℕ → ℕ → List Held → List ℕ
+block_of from most h = take most (drop from (map (λ e. e.id) h))
+
 -- the data of an outcome
 abbrev pub data_in : List Held → Data → List ℕ
-data_in h (Ids from most) = flat_map bytes32 (take most (drop from (map (λ e. e.id) h)))
+data_in h (Ids from most) = flat_map bytes32 (block_of from most h)
 data_in h (Template place) = (held_at h place).template
 
 abbrev pub plain : Told → Said

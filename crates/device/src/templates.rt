@@ -1,11 +1,21 @@
 ghost use Rattle.std.specs.Prelude.{◌≡◌};
 ghost use Rattle.machine.specs.Enrollment.{staying};
 ghost use Rattle.machine.specs.Searches.{without};
-ghost use Rattle.memory.specs.Held.{add_after};
+ghost use Rattle.memory.specs.Held.{add_after, remove_after};
 
 use codes::EnrollFlag;
 use machine::Enrollment;
 use memory::Memory;
+
+/// Takes the template at a place out. It stays a call of its own, so that a walk over places at which none is taken
+/// out is short.
+#[inline(never)]
+fn take_out<S: Memory>(memory: &mut S, place: usize)
+    ensures after { S.Memory.held memory.new ≡ remove_after (S.Memory.held memory.old) place }
+    ensures room_same { S.Memory.room memory.new ≡ S.Memory.room memory.old }
+{
+    memory.remove(place);
+}
 
 /// Takes all templates of the ID out.
 pub fn delete_all_of<S: Memory>(memory: &mut S, id: u16)
@@ -14,7 +24,7 @@ pub fn delete_all_of<S: Memory>(memory: &mut S, id: u16)
 {
     for place in (0..memory.count()).rev() {
         if memory.id_at(place) == Some(id) {
-            memory.remove(place);
+            take_out(memory, place);
         }
     }
 }

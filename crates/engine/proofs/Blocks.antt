@@ -4,7 +4,7 @@ use Rattle.memory.specs.Held.{Held, held_at, none}
 use Rattle.packet.specs.Numbers.{bytes32}
 use Rattle.promises.proofs.Sent.{length_ids}
 use Rattle.requests.proofs.Blocks.{block-length}
-use Rattle.requests.specs.Blocks.{block_of}
+use Rattle.device.specs.View.{block_of}
 use Rattle.std.specs.List.{flat_map}
 use Rattle.std.proofs.lemmas.List.{append_assoc, drop_at, drop-drop, get_or-drop, get_or-map, get_or-take, flat_map_more, length-take-le, take_all, take_at, take_more}
 

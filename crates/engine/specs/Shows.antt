@@ -23,7 +23,8 @@ sent_by own (Err e) = []
 
 -- a packet that is accepted writes back to its frame
 abbrev pub WritesBack : State → Event → Type 0
-WritesBack v (packet frame) = (q : RequestParts) → read_request v.settings.network v.own frame ≡ Ok q → request_bytes q ≡ frame
+WritesBack v (packet frame) =
+    (q : RequestParts) → read_request v.settings.network v.own frame ≡ Ok q → request_bytes q ≡ frame
 WritesBack v (finger scan quality) = Unit {0}
 WritesBack v second = Unit {0}
 
@@ -34,7 +35,8 @@ pub record Heard (v : State) (e : Event) (a : Result Answers Refusal) (w : State
   pub back : is_ok a ≡ true → WritesBack v e
 
 -- a module that was `v` when an event came is `w` now; the machine's step was `r`, the call's answer is `a`
-pub record Shows (v : State) (e : Event) (r : Result Step Refusal) (a : Result Answer Refusal) (w : State) (before after : List ℕ) : Type 0 where
+pub record Shows (v : State) (e : Event) (r : Result Step Refusal) (a : Result Answer Refusal) (w : State)
+    (before after : List ℕ) : Type 0 where
   -- the refusal or the outcomes, the count, the next state and the answer buffer are the machine's
   pub answer : seen a ≡ answered r
   pub count : count_in a ≡ length (written_by v r)
@@ -44,8 +46,8 @@ pub record Shows (v : State) (e : Event) (r : Result Step Refusal) (a : Result A
   pub reads : ReadAs (take (count_in a) after) (sent_by v.own r)
   pub back : is_ok a ≡ true → WritesBack v e
 
--- a call: what it shows is the machine's; a refused one leaves the module and the answer buffer as they were, and the work
--- buffer too where a buffer was too short; any other leaves zeros in the work buffer
+-- a call: what it shows is the machine's; a refused one leaves the module and the answer buffer as they were, and the
+-- work buffer too where a buffer was too short; any other leaves zeros in the work buffer
 pub record Served (v : State) (c : Call) (a : Result Answer Refusal) (w : State) (out work : List ℕ) : Type 0 where
   pub shows : Shows v c.event (step_of v c) a w c.out out
   pub work_after : work ≡ work_after c

@@ -10,7 +10,8 @@ use Rattle.std.specs.List.{AllByRecursion}
 abbrev pub said : Form → Outcome → List ℕ → Said
 said to o bs = record { to = to; outcome = o; «data» = bs }
 
--- their bytes stand at the front of the answer buffer, those behind stay; they read back as what is sent of the outcomes
+-- their bytes stand at the front of the answer buffer, those behind stay; they read back as what is sent of the
+-- outcomes
 pub record Wrote (own : ℕ) (ys : List Said) (before after : List ℕ) (n : ℕ) : Type 0 where
   pub count : n ≡ length (bytes_of own ys)
   pub bytes : after ≡ bytes_of own ys ++ drop (length (bytes_of own ys)) before

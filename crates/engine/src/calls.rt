@@ -89,7 +89,8 @@ impl<M: Matcher, S: Memory> Module<M, S> {
             (M.Matcher.yes matcher) S.Memory.T (S.Memory.room memory) own }
         ensures begins { Run [] (state M.Matcher S.Memory result) }
         ensures promises { Promised
-            (fresh (M.Matcher.yes matcher) S.Memory.T (S.Memory.room memory) own) [] [] }
+            (fresh (M.Matcher.yes matcher) S.Memory.T (S.Memory.room memory) own) [] []
+            (state M.Matcher S.Memory result) }
     {
         Module {
             device: Device::new(matcher, memory, own),

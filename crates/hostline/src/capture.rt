@@ -63,14 +63,14 @@ impl Capture {
             self.ill_formed = self.ill_formed.saturating_add(1);
             return Ok(out.empty(self.lines)?);
         }
-        match read_hex(heap, digits) {
-            Ok(frame) => self.frame(heap, frame.as_slice(), out),
-            Err(Fault::Memory(_)) => Err(anyhow!("out of memory")),
-            Err(fault) => {
-                self.ill_formed = self.ill_formed.saturating_add(1);
-                Ok(out.ill_formed(self.lines, fault)?)
-            }
-        }
+        let reported = match read_hex(heap, digits) {
+            Ok(frame) => return self.frame(heap, frame.as_slice(), out),
+            Err(Fault::Memory(_)) => return Err(anyhow!("out of memory")),
+            Err(Fault::NoDigit(at)) => out.no_digit(self.lines, at),
+            Err(Fault::Odd) => out.odd(self.lines),
+        };
+        self.ill_formed = self.ill_formed.saturating_add(1);
+        Ok(reported?)
     }
 
     fn frame<W: Write>(

@@ -1,6 +1,5 @@
 use crate::capture::Capture;
 use codes::{Coded, Command, EnrollFlag, Parameter, Refusal};
-use digits::Fault;
 use packet::Request;
 use std::io;
 use std::io::Write;
@@ -37,21 +36,16 @@ impl<W: Write> Report<W> {
         writeln!(self.out, "{line:>6}  ill-formed: no digits")
     }
 
-    pub fn ill_formed(&mut self, line: u64, fault: Fault) -> io::Result<()> {
-        match fault {
-            Fault::NoDigit(at) => {
-                let column = at.saturating_add(1);
-                writeln!(
-                    self.out,
-                    "{line:>6}  ill-formed: no digit 0 to 9 or A to F in column {column}"
-                )
-            }
-            Fault::Odd => writeln!(self.out, "{line:>6}  ill-formed: an odd number of digits"),
-            Fault::Memory(_) => writeln!(
-                self.out,
-                "{line:>6}  ill-formed: too long for the memory"
-            ),
-        }
+    pub fn no_digit(&mut self, line: u64, at: usize) -> io::Result<()> {
+        let column = at.saturating_add(1);
+        writeln!(
+            self.out,
+            "{line:>6}  ill-formed: no digit 0 to 9 or A to F in column {column}"
+        )
+    }
+
+    pub fn odd(&mut self, line: u64) -> io::Result<()> {
+        writeln!(self.out, "{line:>6}  ill-formed: an odd number of digits")
     }
 
     pub fn refusal(&mut self, line: u64, refusal: Refusal) -> io::Result<()> {

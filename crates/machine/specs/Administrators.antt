@@ -1,5 +1,5 @@
 -- The table of administrators: at most 16 rows, each an ID and a level.
-use Rattle.std.specs.Prelude.{ℕ, Bool, true, false, cond, ◌||◌, List, [], ◌∷◌, Some, None, Option, ◌==◌}
+use Rattle.std.specs.Prelude.{ℕ, Bool, true, false, cond, ◌||◌, List, [], ◌∷◌, ◌++◌, length, is_some, Some, None, Option, ◌==◌, nat_lt}
 use Rattle.machine.specs.declared.level.AdminRow.{AdminRow}
 use Rattle.machine.specs.declared.level.Level.{Level}
 use Rattle.machine.specs.declared.level.Level.TheVariants.{Enroll, Delete, All}
@@ -41,3 +41,9 @@ struck id (r ∷ rows) = cond (r.id == id) (struck id rows) (r ∷ struck id row
 abbrev pub changed : ℕ → Level → List AdminRow → List AdminRow
 changed id level [] = []
 changed id level (r ∷ rows) = cond (r.id == id) ((record { id = r.id; level = level }) ∷ rows) (r ∷ changed id level rows)
+
+-- the level is written into one row of at most 16: the ID's own, or a new one behind the others; `full` where none is left
+abbrev pub written : {X : Type 0} → ℕ → Level → List AdminRow → X → (List AdminRow → X) → X
+written id level rows full f =
+    cond (is_some (level_of id rows)) (f (changed id level rows))
+    (cond (nat_lt (length rows) 16) (f (rows ++ (record { id = id; level = level }) ∷ [])) full)

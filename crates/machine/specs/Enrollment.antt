@@ -56,7 +56,10 @@ staying AddNew id h = h
 staying AutoId id h = h
 staying CheckFinger id h = h
 
--- the new templates are put last; an administrator who is replaced keeps the row
+-- the new templates are put last
+abbrev pub held_with : Enrollment → List Held → List (List ℕ) → List Held
+held_with e h templates = staying e.flag e.id h ++ map (λ t. record { id = e.id; template = t }) templates
+
+-- an administrator who is replaced keeps the row
 abbrev pub enrolled : State → Enrollment → List (List ℕ) → State
-enrolled s e templates =
-    holding s (staying e.flag e.id s.held ++ map (λ t. record { id = e.id; template = t }) templates) s.admins
+enrolled s e templates = holding s (held_with e s.held templates) s.admins

@@ -10,4 +10,5 @@ pub mod Requests
 pub mod Waiting
 pub mod Machine
 pub mod Ready
+pub mod Printed
 pub mod Tried

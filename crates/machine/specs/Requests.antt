@@ -1,5 +1,5 @@
 -- What an idle module makes of a request, command by command.
-use Rattle.std.specs.Prelude.{ℕ, ◌+◌, ◌-◌, ◌*◌, Bool, true, false, cond, not, ◌&&◌, List, [], ◌∷◌, ◌++◌, map, length, take, drop, is_some, Some, None, Option, ◌==◌, nat_le, nat_lt}
+use Rattle.std.specs.Prelude.{ℕ, ◌+◌, ◌-◌, ◌*◌, Bool, true, false, cond, not, ◌&&◌, List, [], ◌∷◌, map, length, take, drop, Some, None, Option, ◌==◌, nat_le}
 use Rattle.codes.specs.Flags.{flag_number, flags}
 use Rattle.codes.specs.Numbers.{case_of}
 use Rattle.codes.specs.Parameters.{parameter_number, parameters}
@@ -57,8 +57,8 @@ use Rattle.std.specs.List.{flat_map}
 use Rattle.std.specs.Str.{bytes_eq}
 use Rattle.std.specs.Option.{option_map}
 use Rattle.machine.specs.AdminLevels.{admin_level_number, admin_levels}
-use Rattle.machine.specs.Administrators.{any_admin, changed, level_of, may_delete, may_enroll, struck}
-use Rattle.machine.specs.Answers.{Step, answer, answer_data, go, just}
+use Rattle.machine.specs.Administrators.{any_admin, may_delete, may_enroll, struck, written}
+use Rattle.machine.specs.Answers.{Said, Step, answer, answer_data, go, just}
 use Rattle.machine.specs.Enrollment.{enroll_fault, enroll_id, enrolled, looks_up}
 use Rattle.machine.specs.Ids.{is_id, range_of}
 use Rattle.machine.specs.Searches.{any_agrees, without}
@@ -138,6 +138,21 @@ enroll s q by missing needed f =
     cond missing (just s q Unsupported)
     (unless (enroll_fault s flag id needed) (just s q) (f (record { id = id; flag = flag; by = by })))))
 
+-- whether an administrator is wanted and there is none who may let others enrol
+abbrev pub is_missing : State → Enroller → Bool
+is_missing s Host = false
+is_missing s Administrator = not (any_admin may_enroll s.admins)
+
+-- what comes first: an administrator's finger, where one lets enrol
+abbrev pub first_phase : Enroller → Enrollment → Phase
+first_phase Host e = first_finger e
+first_phase Administrator e = grant_to_enroll e
+
+-- ES and ESA
+abbrev pub enroll_by : Enroller → State → RequestParts → Step
+enroll_by by s q =
+    enroll s q by (is_missing s by) (templates_in s.settings.enroll) (λ e. wait_for s q (first_phase by e))
+
 -- ET: one template, which comes as data, is enrolled at once
 abbrev pub enroll_now : State → RequestParts → Enrollment → Step
 enroll_now s q e =
@@ -147,28 +162,34 @@ enroll_now s q e =
 abbrev pub enroll_template : State → RequestParts → Step
 enroll_template s q = cond (not (q.size == s.size)) (just s q Unsupported) (enroll s q Host false 1 (enroll_now s q))
 
+-- what is for an ID with templates, where Param has one
+abbrev pub for_held : {X : Type 0} → State → ℕ → (Code → X) → X → X
+for_held s param fail x =
+    cond (not (is_id param)) (fail InvalidId)
+    (cond (count_of param s.held == 0) (fail NotFound) x)
+
 -- VS
 abbrev pub verify : State → RequestParts → Step
-verify s q =
-    cond (not (is_id q.param)) (just s q InvalidId)
-    (cond (count_of q.param s.held == 0) (just s q NotFound) (wait_for s q (person_to_verify q.param)))
+verify s q = for_held s q.param (just s q) (wait_for s q (person_to_verify q.param))
 
 -- DT: the templates go, and with the last of them the administrator's row
 abbrev pub delete : State → RequestParts → Step
 delete s q =
-    cond (not (is_id q.param)) (just s q InvalidId)
-    (cond (count_of q.param s.held == 0) (just s q NotFound)
-    (just (holding s (without q.param s.held) (struck q.param s.admins)) q Success))
+    for_held s q.param (just s q) (just (holding s (without q.param s.held) (struck q.param s.admins)) q Success)
 
 -- LT: the block of IDs that is asked for
 abbrev pub block : ℕ → ℕ → List ℕ → List ℕ
 block index size ids = cond (size == 0) ids (take size (drop (index * size) ids))
 
+-- IDs are answered with their number in Param and 4 times it in Size
+abbrev pub answer_ids : RequestParts → List ℕ → List Said
+answer_ids q ids = answer_data q (length ids) (4 * length ids) Success (flat_map bytes32 ids)
+
 abbrev pub list : State → RequestParts → Step
 list s q =
     let ids = block q.param q.size (map (λ e. e.id) s.held) in
     cond (not (q.size == 0) && nat_le (length s.held) (q.param * q.size)) (just s q InvalidId)
-    (go s (answer_data q (length ids) (4 * length ids) Success (flat_map bytes32 ids)))
+    (go s (answer_ids q ids))
 
 -- RT: a template of an ID, by its number
 abbrev pub read_template : State → RequestParts → Step
@@ -185,26 +206,22 @@ pub data Wanted : Type 0 where
 abbrev pub level_in : ℕ → Option Wanted
 level_in n = cond (n == 0) (Some no_level) (option_map wanted (case_of admin_level_number admin_levels n))
 
--- AW, once the ID is known to have templates: level 0 strikes the row, another is written into it, or into a new one of at most 16
+-- AW, once the ID is known to have templates: level 0 strikes the row, another is written
 abbrev pub levelled : State → RequestParts → Wanted → Step
 levelled s q no_level = just (holding s s.held (struck q.param s.admins)) q Success
 levelled s q (wanted level) =
-    cond (is_some (level_of q.param s.admins)) (just (holding s s.held (changed q.param level s.admins)) q Success)
-    (cond (nat_lt (length s.admins) 16)
-    (just (holding s s.held (s.admins ++ (record { id = q.param; level = level }) ∷ [])) q Success)
-    (just s q MemFull))
+    written q.param level s.admins (just s q MemFull) (λ rows. just (holding s s.held rows) q Success)
 
 abbrev pub write_level : State → RequestParts → Step
 write_level s q =
     given (level_in q.flag) (just s q Unsupported) (λ level.
-    cond (not (is_id q.param)) (just s q InvalidId)
-    (cond (count_of q.param s.held == 0) (just s q NotFound) (levelled s q level)))
+    for_held s q.param (just s q) (levelled s q level))
 
 -- a request by a known command
 abbrev pub known : State → RequestParts → Command → Step
 known s q WriteParameter = write_parameter s q
 known s q ReadParameter = read_parameter s q
-known s q Enroll = enroll s q Host false (templates_in s.settings.enroll) (λ e. wait_for s q (first_finger e))
+known s q Enroll = enroll_by Host s q
 known s q EnrollTemplate = enroll_template s q
 known s q Verify = verify s q
 known s q Identify = given (range_of q.param) (just s q InvalidId) (λ range. wait_for s q (person_to_identify range))
@@ -214,8 +231,7 @@ known s q DeleteAll = just (holding s [] []) q Success
 known s q ListTemplates = list s q
 known s q Cancel = just s q NotFound
 known s q WriteLevel = write_level s q
-known s q EnrollByAdministrator =
-    enroll s q Administrator (not (any_admin may_enroll s.admins)) (templates_in s.settings.enroll) (λ e. wait_for s q (grant_to_enroll e))
+known s q EnrollByAdministrator = enroll_by Administrator s q
 known s q DeleteByAdministrator =
     given (range_of q.param) (just s q InvalidId) (λ range.
     cond (not (any_admin may_delete s.admins)) (just s q Unsupported) (wait_for s q (grant_to_delete range)))

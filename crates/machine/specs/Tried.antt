@@ -1,16 +1,11 @@
 -- The definitions tried on two recorded runs, of a module over 16 pages of 256 bytes, a matcher of equal bytes, module number 1.
-use Rattle.std.specs.Prelude.{ℕ, ◌+◌, List, [], ◌∷◌, ◌++◌, Ok, Err, codes, Result}
-use Rattle.codes.specs.Codes.{code_number}
-use Rattle.codes.specs.Coded.{byte_of}
-use Rattle.codes.specs.Commands.{command_number}
-use Rattle.codes.specs.Refusals.{refusal_number}
-use Rattle.codes.specs.declared.refusal.Refusal.{Refusal}
-use Rattle.digits.specs.Digits.{hex_bytes, hex_text}
+use Rattle.std.specs.Prelude.{ℕ, List, [], ◌∷◌, ◌++◌, Ok, Err, codes, Result}
+use Rattle.digits.specs.Digits.{hex_bytes}
 use Rattle.digits.specs.declared.Fault.{Fault}
 use Rattle.std.specs.Str.{bytes_eq}
-use Rattle.machine.specs.Answers.{Said, Step, bytes_of}
 use Rattle.machine.specs.Machine.{Event, next_of, on_event}
 use Rattle.machine.specs.Machine.Event.{packet, finger, second}
+use Rattle.machine.specs.Printed.{line_of}
 use Rattle.machine.specs.State.{State, fresh}
 
 -- bytes from their digits
@@ -20,16 +15,6 @@ or_none (Err e) = []
 
 abbrev pub bytes : List ℕ → List ℕ
 bytes digits = or_none (hex_bytes digits)
-
--- an answer as a line: each outcome's command and code, blanks between, a colon and the bytes written; or ! and the refusal's number
-abbrev pub outcomes : List Said → List ℕ
-outcomes [] = []
-outcomes (x ∷ []) = hex_text (byte_of command_number x.outcome.command ∷ code_number x.outcome.code ∷ [])
-outcomes (x ∷ y ∷ ys) = hex_text (byte_of command_number x.outcome.command ∷ code_number x.outcome.code ∷ []) ++ 32 ∷ outcomes (y ∷ ys)
-
-abbrev pub line_of : State → Result Step Refusal → List ℕ
-line_of s (Ok x) = outcomes x.said ++ 58 ∷ hex_text (bytes_of s.own x.said)
-line_of s (Err e) = 33 ∷ (48 + refusal_number e) ∷ []
 
 -- the lines that some events give, one after the other
 abbrev pub lines : State → List Event → List (List ℕ)

@@ -42,6 +42,10 @@ scanned On w xs = tell w 0 0 ScanSuccess ∷ xs
 abbrev pub ended : State → Waiting → ℕ → ℕ → Code → Step
 ended s w param size code = go (awaiting s None) (scanned s.settings.scans w (tell w param size code ∷ []))
 
+-- the request ends without a good scan
+abbrev pub broken_off : State → Waiting → Code → Step
+broken_off s w code = go (awaiting s None) (tell w 0 0 code ∷ [])
+
 -- the request goes on to wait for another finger, with a wait of its own
 abbrev pub goes_on : State → Waiting → Phase → List Said → Step
 goes_on s w phase xs =
@@ -66,20 +70,26 @@ first s w e TwoTemplates scan quality = goes_on s w (second_finger e scan qualit
 abbrev pub better : List ℕ → ℕ → List ℕ → ℕ → List ℕ
 better one q1 two q2 = cond (nat_lt q1 q2) two one
 
+-- the templates of two scans
+abbrev pub templates_of : EnrollMode → List ℕ → ℕ → List ℕ → ℕ → List (List ℕ)
+templates_of Once one q1 two q2 = better one q1 two q2 ∷ []
+templates_of Twice one q1 two q2 = better one q1 two q2 ∷ []
+templates_of TwoTemplates one q1 two q2 = one ∷ two ∷ []
+
 -- the second finger, once it agrees with the first
 abbrev pub second : State → Waiting → Enrollment → EnrollMode → List ℕ → ℕ → List ℕ → ℕ → Step
-second s w e Once one q1 two q2 = done s w e (better one q1 two q2 ∷ []) (max q1 q2)
-second s w e Twice one q1 two q2 = done s w e (better one q1 two q2 ∷ []) (max q1 q2)
-second s w e TwoTemplates one q1 two q2 = done s w e (one ∷ two ∷ []) (max q1 q2)
+second s w e mode one q1 two q2 = done s w e (templates_of mode one q1 two q2) (max q1 q2)
 
--- a person whom VS, IS or DSA looked for
+-- a person whom VS or IS looked for, and the code that says that none was found
+abbrev pub recognized : State → Waiting → Code → Option (ℕ × ℕ) → Step
+recognized s w missed None = ended s w 0 0 missed
+recognized s w missed (Some x) = ended s w x.0 x.1 Success
+
 abbrev pub verified : State → Waiting → Option (ℕ × ℕ) → Step
-verified s w None = ended s w 0 0 NotMatch
-verified s w (Some x) = ended s w x.0 x.1 Success
+verified s w x = recognized s w NotMatch x
 
 abbrev pub identified : State → Waiting → Option (ℕ × ℕ) → Step
-identified s w None = ended s w 0 0 NotFound
-identified s w (Some x) = ended s w x.0 x.1 Success
+identified s w x = recognized s w NotFound x
 
 -- DSA deletes the person's templates, but not an administrator's
 abbrev pub deleted : State → Waiting → Option (ℕ × ℕ) → Step
@@ -100,17 +110,20 @@ pressed s w (person_to_verify id) scan quality = verified s w (found_one s id sc
 pressed s w (person_to_identify range) scan quality = identified s w (found_in s range scan)
 pressed s w (person_to_delete range) scan quality = deleted s w (found_in s range scan)
 
--- a finger: a scan of another length than a template's or a quality above 100 fails, one below 30 is to be tried again
+-- a scan of another length than a template's or a quality above 100 fails, one below 30 is to be tried again
+abbrev pub judged : {X : Type 0} → ℕ → ℕ → ℕ → (Code → X) → X → X
+judged long size quality bad good =
+    cond (not (long == size) || nat_lt 100 quality) (bad ScanFail) (cond (nat_lt quality 30) (bad TryAgain) good)
+
+-- a finger
 abbrev pub on_finger : State → Option Waiting → List ℕ → ℕ → Step
 on_finger s None scan quality = go s []
 on_finger s (Some w) scan quality =
-    cond (not (length scan == s.size) || nat_lt 100 quality) (go (awaiting s None) (tell w 0 0 ScanFail ∷ []))
-    (cond (nat_lt quality 30) (go (awaiting s None) (tell w 0 0 TryAgain ∷ []))
-    (pressed s w w.phase scan quality))
+    judged (length scan) s.size quality (broken_off s w) (pressed s w w.phase scan quality)
 
 -- a second: a wait of n seconds ends with the n-th; one without end (0) goes on
 abbrev pub on_second : State → Option Waiting → Step
 on_second s None = go s []
 on_second s (Some w) =
-    cond (w.left == 1) (go (awaiting s None) (tell w 0 0 TimeOut ∷ []))
+    cond (w.left == 1) (broken_off s w TimeOut)
     (go (awaiting s (Some (record { form = w.form; phase = w.phase; left = w.left - 1 }))) [])

@@ -1,15 +1,15 @@
 -- What an enrolment's scans give, and what is held then.
-use Rattle.std.proofs.Common.{◌≡◌, ℕ, ◌≤◌, max, Bool, true, false, cond, List, [], ◌∷◌, length, take, ◌⊎◌, inl, inr, refl, arith}
+use Rattle.std.proofs.Common.{◌≡◌, ℕ, ◌≤◌, Bool, true, false, cond, List, [], ◌∷◌, length, take, ◌⊎◌, inl, inr, refl, arith}
 use Rattle.codes.specs.declared.code.Code.TheVariants.{Success}
 use Rattle.device.proofs.Remembering.{remembering}
+use Rattle.machine.specs.Enrollment.{held_with}
 use Rattle.machine.specs.Settings.{templates_in}
 use Rattle.machine.specs.State.{State, Waiting}
-use Rattle.machine.specs.Waiting.{better, done, ended, second}
+use Rattle.machine.specs.Waiting.{better, done, ended, templates_of}
 use Rattle.machine.specs.declared.enrollment.Enrollment.{Enrollment}
 use Rattle.machine.specs.declared.settings.EnrollMode.{EnrollMode}
 use Rattle.machine.specs.declared.settings.EnrollMode.TheVariants.{Once, Twice, TwoTemplates}
 use Rattle.memory.specs.Held.{Held}
-use Rattle.phases.specs.Templates.{held_with, templates_of}
 use Rattle.std.proofs.lemmas.List.{take_all}
 
 -- an enrolment gives some template
@@ -35,9 +35,3 @@ module _ (s : State) (w : Waiting) (e : Enrollment) where
       → h ≡ held_with e s.held templates
       → ended (remembering s room h s.admins) w e.id quality Success ≡ done s w e templates quality
   enrolls templates quality room h r t = rw (r, t)
-
-  pub seconds : (m : EnrollMode) (one two : List ℕ) (q1 q2 : ℕ)
-      → done s w e (templates_of m one q1 two q2) (max q1 q2) ≡ second s w e m one q1 two q2
-  seconds Once one two q1 q2 = refl
-  seconds Twice one two q1 q2 = refl
-  seconds TwoTemplates one two q1 q2 = refl

@@ -1,20 +1,20 @@
 -- A request waits, and a finger comes, or a second passes.
 use Rattle.std.proofs.Common.{◌≡◌, ℕ, ◌≤◌, cond, not, ◌||◌, eqb, ltb, Bool, true, false, List, [], ◌∷◌, length, Some, None, Ok, Option, refl, ap, ◌∙◌, arith}
 use Rattle.codes.specs.declared.code.Code.{Code}
-use Rattle.codes.specs.declared.code.Code.TheVariants.{NotFound, NotMatch, ScanFail, TimeOut, TryAgain}
+use Rattle.codes.specs.declared.code.Code.TheVariants.{ScanFail, TimeOut, TryAgain}
 use Rattle.device.specs.View.{phase_of, view, waiting_of}
 use Rattle.device.specs.declared.awaited.Awaited.{Awaited}
 use Rattle.device.specs.declared.keeping.Device.{Device}
 use Rattle.machine.specs.Answers.{Step, go, tell}
 use Rattle.machine.specs.State.{Phase, State, Waiting, awaiting}
-use Rattle.machine.specs.Waiting.{identified, on_finger, on_second, pressed, verified}
+use Rattle.machine.specs.Waiting.{on_finger, on_second, pressed}
 use Rattle.matcher.specs.declared.matching.Matcher.{Ghosts as Matching}
 use Rattle.memory.specs.declared.Memory.{Ghosts as Remembering}
 use Rattle.packet.specs.declared.form.Form.{Form}
 use Rattle.packet.specs.declared.request.Request.{Request}
 use Rattle.phases.specs.Events.{as_came, decided, spoiled}
 use Rattle.phases.specs.Scans.{scan_fault}
-use Rattle.phases.specs.Told.{recognized, waiting_for}
+use Rattle.phases.specs.Told.{waiting_for}
 use Rattle.phases.specs.declared.good.GoodScan.{GoodScan}
 use Rattle.phases.specs.declared.scan.Event.{Event}
 use Rattle.phases.specs.declared.scan.Event.TheVariants.{Finger}
@@ -38,14 +38,6 @@ pub presses : {M S : Type 0} (f : Matching M) (g : Remembering S) (d : Device M 
 presses f g d event x a p r comes waits there e =
     rw (comes, waits, there)
     (ap Ok (e ∙ good (view f g d) (waiting_for d p) x.bytes.now x.quality x.long x.clear x.within))
-
-pub verifies : (s : State) (w : Waiting) (o : Option (ℕ × ℕ)) → recognized s w NotMatch o ≡ verified s w o
-verifies s w None = refl
-verifies s w (Some x) = refl
-
-pub identifies : (s : State) (w : Waiting) (o : Option (ℕ × ℕ)) → recognized s w NotFound o ≡ identified s w o
-identifies s w None = refl
-identifies s w (Some x) = refl
 
 -- a bad scan
 pub spoils : (s : State) (o : Option Waiting) (scan : List ℕ) (quality : ℕ) (code : Code)

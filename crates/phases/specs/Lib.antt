@@ -1,4 +1,3 @@
 pub mod Told
 pub mod Scans
-pub mod Templates
 pub mod Events

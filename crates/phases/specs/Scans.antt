@@ -1,9 +1,8 @@
 -- Which scans are no good.
-use Rattle.std.specs.Prelude.{ℕ, cond, not, ◌||◌, Some, None, Option, ◌==◌, nat_lt}
+use Rattle.std.specs.Prelude.{ℕ, Some, None, Option}
 use Rattle.codes.specs.declared.code.Code.{Code}
-use Rattle.codes.specs.declared.code.Code.TheVariants.{ScanFail, TryAgain}
+use Rattle.machine.specs.Waiting.{judged}
 
--- a scan of another length than a template's or a quality above 100 fails, one below 30 is to be tried again
+-- what is told of one that is none
 abbrev pub scan_fault : ℕ → ℕ → ℕ → Option Code
-scan_fault long size quality =
-    cond (not (long == size) || nat_lt 100 quality) (Some ScanFail) (cond (nat_lt quality 30) (Some TryAgain) None)
+scan_fault long size quality = judged long size quality Some None

@@ -2,10 +2,9 @@ ghost use Rattle.std.specs.Prelude.{◌≡◌, true, cond, length, is_some, Err,
 ghost use Rattle.codes.specs.declared.refusal.Refusal.TheVariants.{WorkBuffer};
 ghost use Rattle.device.specs.View.{tried, view, went};
 ghost use Rattle.machine.specs.Machine.{asked};
-ghost use Rattle.machine.specs.Ready.{Ready};
 ghost use Rattle.machine.specs.Waiting.{on_second};
 ghost use Rattle.packet.specs.Requests.{request_parts};
-ghost use Rattle.phases.specs.Events.{as_came, decided, spoiled};
+ghost use Rattle.phases.specs.Events.{Fits, as_came, decided, spoiled};
 ghost use Rattle.phases.specs.Told.{command_in};
 
 use crate::enrolling::{enroll_command, first_finger, second_finger};
@@ -89,9 +88,11 @@ fn match_awaited<M: Matcher, S: Memory>(
     event: Event<Request<'_>, GoodScan<'_, S>>,
     work: &mut [u8; LONGEST_TEMPLATE],
 ) -> Result<Answers, Refusal>
-    ensures value { Ready (view M.Matcher S.Memory device.old) → tried (view M.Matcher S.Memory device.new) result
+    ensures value { Fits (view M.Matcher S.Memory device.old) (as_came event.entry)
+        → tried (view M.Matcher S.Memory device.new) result
         ≡ decided (view M.Matcher S.Memory device.old) (as_came event.entry) }
     ensures refused { OnErr result (view M.Matcher S.Memory device.new ≡ view M.Matcher S.Memory device.old) }
+    ensures untouched { OnErr result (work.new ≡ work.old) }
 {
     match (&mut device.awaited, event) {
         (Awaited::Nothing, Event::Packet(request)) => start(device, request, work),
@@ -122,19 +123,21 @@ fn match_awaited<M: Matcher, S: Memory>(
     }
 }
 
-/// What comes to a module whose lock lets it through, if an enrolment that waits can be carried out, as in every
-/// module that calls have led to. Templates are compared in `work`, which is the caller's to clear; where it is shorter
-/// than the longest template, all is refused, and a request that would start is where it lacks the data that its Size
-/// says. A refusal changes nothing.
+/// What comes to a module whose lock lets it through; a finger of an enrolment where that can be carried out, as in
+/// every module that calls have led to. Templates are compared in `work`, which is the caller's to clear; where it is
+/// shorter than the longest template, all is refused, and a request that would start is where it lacks the data that
+/// its Size says. A refusal changes nothing, `work` neither.
 pub fn decide<M: Matcher, S: Memory>(
     device: &mut Device<M, S>,
     event: Event<Request<'_>, Scan<'_>>,
     work: &mut [u8],
 ) -> Result<Answers, Refusal>
-    ensures value { Ready (view M.Matcher S.Memory device.old) → tried (view M.Matcher S.Memory device.new) result
+    ensures value { Fits (view M.Matcher S.Memory device.old) event.entry
+        → tried (view M.Matcher S.Memory device.new) result
         ≡ cond (nat_lt (length work.old) 384) (Err WorkBuffer)
         (decided (view M.Matcher S.Memory device.old) event.entry) }
     ensures refused { OnErr result (view M.Matcher S.Memory device.new ≡ view M.Matcher S.Memory device.old) }
+    ensures untouched { OnErr result (work.new ≡ work.old) }
 {
     let Some(work) = work.first_chunk_mut::<LONGEST_TEMPLATE>() else {
         return Err(Refusal::WorkBuffer);

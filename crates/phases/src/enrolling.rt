@@ -2,12 +2,12 @@ ghost use Rattle.std.specs.Prelude.{◌≡◌, ◌-◌, ◌<◌, ◌≤◌, [], 
 ghost use Rattle.std.specs.Prelude.{if◌then◌else◌};
 ghost use Rattle.codes.specs.declared.code.Code.TheVariants.{Success};
 ghost use Rattle.device.specs.View.{view, went};
+ghost use Rattle.machine.specs.Enrollment.{held_with};
 ghost use Rattle.machine.specs.Ready.{CanEnroll};
 ghost use Rattle.machine.specs.Settings.{templates_in};
 ghost use Rattle.machine.specs.State.{Phase, command_of, enroll_command};
 ghost use Rattle.machine.specs.State.Phase.{first_finger, second_finger};
-ghost use Rattle.machine.specs.Waiting.{ended, first, goes_on, pressed};
-ghost use Rattle.phases.specs.Templates.{held_with, templates_of};
+ghost use Rattle.machine.specs.Waiting.{ended, first, goes_on, pressed, templates_of};
 ghost use Rattle.phases.specs.Told.{waiting_for};
 
 use crate::good::GoodScan;

@@ -3,8 +3,8 @@ ghost use Rattle.device.specs.View.{view, went};
 ghost use Rattle.machine.specs.Searches.{found_by, found_in};
 ghost use Rattle.machine.specs.State.{Phase, command_of};
 ghost use Rattle.machine.specs.State.Phase.{person_to_delete};
-ghost use Rattle.machine.specs.Waiting.{deleted};
-ghost use Rattle.phases.specs.Told.{recognized, waiting_for};
+ghost use Rattle.machine.specs.Waiting.{deleted, recognized};
+ghost use Rattle.phases.specs.Told.{waiting_for};
 
 use crate::good::GoodScan;
 use crate::telling::end;

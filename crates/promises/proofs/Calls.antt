@@ -6,7 +6,7 @@ use Rattle.machine.specs.Machine.{Call, next_of, step_of, written_by}
 use Rattle.machine.specs.State.{State, fresh}
 use Rattle.promises.specs.Calls.{Keeps, Run, making}
 use Rattle.promises.specs.Promises.{Promised}
-use Rattle.promises.specs.Record.{Entry, entry_of, told}
+use Rattle.promises.specs.Record.{Entry, entry_of, record_of, told}
 use Rattle.promises.specs.Runs.{Reached, answered}
 use Rattle.promises.proofs.Alike.{locked-alike, locked-idle}
 use Rattle.promises.proofs.Whole.{always-promised}
@@ -28,10 +28,11 @@ goes v c e w noted led x r = record {
 reached : (x : List Entry) (v : State) → Run x v → Reached v
 reached x v r = record { agree = r.agree; size = r.size; room = r.room; own = r.own; calls = r.calls; led = r.led }
 
-promised-run : (x : List Entry) (v : State) (r : Run x v) → Promised (making r) r.calls (told r.own x)
+promised-run : (x : List Entry) (v : State) (r : Run x v) → Promised (making r) x (told r.own x) v
 promised-run x v r =
-    subst (λ y. Promised (making r) r.calls (told r.own y)) (sym r.noted)
-    (always-promised r.agree r.size r.room r.own r.calls)
+    let y = record_of (making r) r.calls in
+    subst (λ z. Promised (making r) z (told r.own z) v) (sym r.noted)
+    (subst (λ u. Promised (making r) y (told r.own y) u) (sym r.led) (always-promised r.agree r.size r.room r.own r.calls))
 
 pub keeps : (v : State) (c : Call) (a : Result (List Outcome) Refusal) (n : ℕ) (w : State) → a ≡ answered (step_of v c)
     → n ≡ length (written_by v (step_of v c)) → w ≡ next_of v (step_of v c) → Keeps v (record { call = c; answer = a; count = n }) w

@@ -1,5 +1,5 @@
 -- A grant is earned: each CONTINUE came of a finger whose scan agreed with a template held under the ID that it names.
-use Rattle.std.proofs.Common.{◌≡◌, ℕ, zero, suc, ◌*◌, ◌<◌, max, Bool, true, false, not, ◌&&◌, ◌||◌, eqb, ltb, leb, List, [], ◌∷◌, map, length, is_some, Some, None, Ok, Err, Option, Result, refl, ap, ◌∙◌, subst, inl, inr, arith}
+use Rattle.std.proofs.Common.{◌≡◌, ℕ, zero, suc, ◌*◌, ◌<◌, max, Bool, true, false, not, ◌&&◌, ◌||◌, eqb, ltb, leb, List, [], ◌∷◌, map, length, is_some, Some, None, Ok, Err, Option, Result, sym, refl, ap, ◌∙◌, subst, inl, inr, arith}
 use Rattle.codes.specs.Commands.{command_number}
 use Rattle.codes.specs.Flags.{flag_number, flags}
 use Rattle.codes.specs.Numbers.{case_of}
@@ -66,6 +66,7 @@ use Rattle.machine.specs.declared.settings.EnrollMode.TheVariants.{Once, Twice, 
 use Rattle.machine.specs.declared.settings.Switch.{Switch}
 use Rattle.machine.specs.declared.settings.Switch.TheVariants.{Off, On}
 use Rattle.promises.specs.Promises.{Agreed, AllEarned, EarnedBy, EarnedIn}
+use Rattle.promises.specs.Record.{record_of}
 use Rattle.promises.specs.Runs.{answered}
 use Rattle.promises.proofs.Ways.{by-fault, by-given, by-test, never}
 
@@ -259,9 +260,16 @@ earned-call s c =
     by-test (λ r. EarnedBy s c.event (answered r)) (ltb (length c.out) 2048) _ _ (λ _. tt) (λ _.
     by-test (λ r. EarnedBy s c.event (answered r)) (ltb (length c.work) 384) _ _ (λ _. tt) (λ _. on-event s c.event))
 
-pub earned-in : (s : State) (h : List Call) → EarnedIn s h
+-- the calls of a record are those that came
+calls-of : (s : State) (h : List Call) → map (λ y. y.call) (record_of s h) ≡ h
+calls-of s [] = refl
+calls-of s (c ∷ h) = ap (λ l. c ∷ l) (calls-of s h)
+
+pub earned-in : (s : State) (h : List Call) → EarnedIn s (record_of s h)
 earned-in s [] = tt
-earned-in s (c ∷ h) = (earned-call (after s h) c, earned-in s h)
+earned-in s (c ∷ h) =
+    let P : List Call → Type 0 = λ l. EarnedBy (after s l) c.event (answered (step_of (after s h) c)) in
+    (subst P (sym (calls-of s h)) (earned-call (after s h) c), earned-in s h)
 
 stays-heard : (s : State) (frame : List ℕ) (r : Result RequestParts Refusal) → fixed (next_of s (heard s r)) ≡ fixed s
 stays-heard s frame (Ok q) = (on-requested s frame q).stays

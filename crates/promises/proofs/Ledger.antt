@@ -1,7 +1,5 @@
 -- What one more outcome does to the ledger of grants. Nothing here knows the commands' work.
 use Rattle.std.proofs.Common.{◌≡◌, ℕ, suc, ◌+◌, ◌≤◌, Bool, true, false, cond, eqb, List, ◌∷◌, Some, None, Option, sym, refl, ap, ◌∙◌, subst, arith}
-use Rattle.codes.specs.Coded.{byte_of}
-use Rattle.codes.specs.Commands.{command_number}
 use Rattle.codes.specs.declared.code.Code.{Code}
 use Rattle.codes.specs.declared.code.Code.TheVariants.{Success, ScanSuccess, Continue}
 use Rattle.codes.specs.declared.command.Command.{Command}
@@ -123,7 +121,7 @@ answers {n} {w} {ts} {x} l q o g u k c =
       fresh = λ p h. other p n q o (λ e. omega arith) (l.fresh p (omega arith));
       pending = pending-other n x w ts q o l.pending;
       balance = omega (arith, g true, u true, f, l.balance);
-      owned = (ap (byte_of command_number) c, l.owned);
+      owned = (c, l.owned);
       one = (k _, l.one);
       first = (k _, l.first);
     }
@@ -194,7 +192,7 @@ scans {n} {ts} (owner p q) x y param size l f =
         stands = record { granted = omega (arith, s.granted); unused = omega (arith, s.unused); opened = s.opened };
       };
       balance = omega (arith, l.balance, ap one_if f.kept);
-      owned = (ap (byte_of command_number) h.command, l.owned);
+      owned = (h.command, l.owned);
       one = (tt, l.one);
       first = (tt, l.first);
     }
@@ -225,7 +223,7 @@ continues {n} {ts} (owner p q) x y param size l c d a b =
         stands = (let P : Bool → Type 0 = λ v. Stands p v (note (owner p q) o ∷ ts) in subst P (sym j) z);
       };
       balance = omega (arith, l.balance, ap one_if a, ap one_if j);
-      owned = (ap (byte_of command_number) h.command, l.owned);
+      owned = (h.command, l.owned);
       one = (tt, l.one);
       first = (tt, l.first);
     }
@@ -245,7 +243,7 @@ spends {n} {ts} (owner p q) x param size l a g =
       fresh = λ z y. other z p q o (λ e. omega (arith, h.place)) (l.fresh z y);
       pending = tt;
       balance = omega (arith, l.balance, ap one_if a, u);
-      owned = (ap (byte_of command_number) h.command, l.owned);
+      owned = (h.command, l.owned);
       one = (subst P (sym g) (s.granted ∙ ap one_if a), l.one);
       first = (subst Q (sym g) s.unused, l.first);
     }
@@ -264,7 +262,7 @@ succeeds {n} {ts} (owner p q) x param size l a g =
       fresh = λ z y. other z p q o (λ e. omega (arith, h.place)) (l.fresh z y);
       pending = tt;
       balance = omega (arith, l.balance, ap one_if a, u);
-      owned = (ap (byte_of command_number) h.command, l.owned);
+      owned = (h.command, l.owned);
       one = (subst P (sym g) tt, l.one);
       first = (subst Q (sym g) tt, l.first);
     }
@@ -293,7 +291,7 @@ fails {n} {ts} (owner p q) x param size code l e =
       fresh = λ z y. other z p q o (λ e. omega (arith, h.place)) (l.fresh z y);
       pending = tt;
       balance = omega (arith, l.balance, g, u, f);
-      owned = (ap (byte_of command_number) h.command, l.owned);
+      owned = (h.command, l.owned);
       one = (subst P (sym e) tt, l.one);
       first = (subst Q (sym e) tt, l.first);
     }

@@ -6,7 +6,8 @@ use Rattle.promises.specs.Locked.{shown_locked}
 use Rattle.promises.specs.Promises.{Promised}
 use Rattle.promises.specs.Record.{Entry, record_of, told}
 
--- a run of a module: over some matcher and memory it was made with a number, the calls came, the newest first, `x` is their record, and now it is `v`
+-- a run of a module: over some matcher and memory it was made with a number, the calls came, the newest first, `x` is
+-- their record, and now it is `v`
 pub record Run (x : List Entry) (v : State) : Type 0 where
   pub agree : List ℕ → List ℕ → ℕ → Bool
   pub size : ℕ
@@ -34,8 +35,9 @@ pub record Keeps (v : State) (e : Entry) (w : State) : Type 0 where
   -- it is the same run, one call longer
   pub same_making : (x : List Entry) (r : Run x v) → making (goes_on x r) ≡ making r
   pub one_longer : (x : List Entry) (r : Run x v) → (goes_on x r).calls ≡ e.call ∷ r.calls
-  pub promised : (x : List Entry) (r : Run x v) → Promised (making r) (e.call ∷ r.calls) (told r.own (e ∷ x))
+  pub promised : (x : List Entry) (r : Run x v) → Promised (making r) (e ∷ x) (told r.own (e ∷ x)) w
   -- locked, it awaits nothing
   pub idle : (x : List Entry) → Run x v → w.locked ≡ true → w.waiting ≡ None
   -- and cannot be told apart from any other that has a run and is locked alike
-  pub alike : (x : List Entry) → Run x v → (y : List Entry) (b : State) → Run y b → Twins w b → (cs : List Call) → shown_locked w cs ≡ shown_locked b cs
+  pub alike : (x : List Entry) → Run x v → (y : List Entry) (b : State) → Run y b → Twins w b
+      → (cs : List Call) → shown_locked w cs ≡ shown_locked b cs

@@ -1,6 +1,6 @@
 -- Grants: each CONTINUE, its end, and the SUCCESS that it is spent on.
-use Rattle.std.specs.Prelude.{◌≡◌, ℕ, ◌+◌, ◌<◌, Bool, true, false, cond, ◌⊎◌, List, [], ◌∷◌, length, Some, None, Option, ◌==◌}
-use Rattle.codes.specs.Coded.{byte_of}
+use Rattle.std.specs.Prelude.{◌≡◌, ℕ, ◌+◌, ◌<◌, ◌==◌, Bool, true, false, cond, ◌⊎◌, List, [], ◌∷◌, length}
+use Rattle.std.specs.Prelude.{Option, Some, None}
 use Rattle.codes.specs.Commands.{command_number}
 use Rattle.codes.specs.declared.command.Command.{Command}
 use Rattle.codes.specs.declared.command.Command.TheVariants.{EnrollByAdministrator, DeleteByAdministrator}
@@ -119,10 +119,10 @@ abbrev pub Each : (Told → List Told → Type 0) → List Told → Type 0
 Each P [] = Unit {0}
 Each P (t ∷ ts) = P t ts × Each P ts
 
--- an outcome belongs to a packet of the record, and names its command byte
+-- an outcome belongs to a packet of the record, and its command is that packet's
 abbrev pub Named : Owner → Coded Command → Type 0
 Named nobody c = ⊥
-Named (owner p q) c = byte_of command_number q.command ≡ byte_of command_number c
+Named (owner p q) c = q.command ≡ c
 
 abbrev pub named : Told → List Told → Type 0
 named t before = Named t.of t.out.command
@@ -136,7 +136,8 @@ GrantAt p j (t ∷ ts) = ((j ≡ length ts) × (is_of p t.of ≡ true) × (mark 
 abbrev pub UseAt : ℕ → ℕ → List Told → Type 0
 UseAt p k [] = ⊥
 UseAt p k (t ∷ ts) =
-    ((k ≡ length ts) × (is_of p t.of ≡ true) × (mark t.out.code ≡ success) × (needs_grant t.out.command ≡ true)) ⊎ UseAt p k ts
+    ((k ≡ length ts) × (is_of p t.of ≡ true) × (mark t.out.code ≡ success) × (needs_grant t.out.command ≡ true))
+    ⊎ UseAt p k ts
 
 -- at `k` stands a SUCCESS of ESA or DSA, of whatever request
 abbrev pub UsedAt : ℕ → List Told → Type 0

@@ -26,7 +26,8 @@ unlocks (Err e) = false
 -- what calls show, in the order of time, up to and with the first successful unlock
 abbrev pub shown_locked : State → List Call → List Shown
 shown_locked s [] = []
-shown_locked s (c ∷ cs) = shown s c ∷ cond (unlocks (answered (step_of s c))) [] (shown_locked (next_of s (step_of s c)) cs)
+shown_locked s (c ∷ cs) =
+    shown s c ∷ cond (unlocks (answered (step_of s c))) [] (shown_locked (next_of s (step_of s c)) cs)
 
 -- two locked modules, each reached from its own making, with equal password, number and Network Mode, show the same
 abbrev pub LockedAlike : Type 0

@@ -1,6 +1,7 @@
 -- The record of a run, the newest call first, and what can be read off it alone.
 -- Packets are named by their place: the number of calls before them.
-use Rattle.std.specs.Prelude.{ℕ, Bool, false, cond, ◌||◌, List, [], ◌∷◌, ◌++◌, length, replicate, Some, None, Ok, Err, Option, Result, ◌==◌, slice_index}
+use Rattle.std.specs.Prelude.{ℕ, ◌==◌, Bool, false, cond, ◌||◌, Option, Some, None, Result, Ok, Err}
+use Rattle.std.specs.Prelude.{List, [], ◌∷◌, ◌++◌, length, replicate, slice_index}
 use Rattle.codes.specs.Codes.{code_number}
 use Rattle.codes.specs.Numbers.{case_of}
 use Rattle.codes.specs.Parameters.{parameter_number, parameters}
@@ -106,7 +107,8 @@ abbrev pub waiter : ℕ → List Entry → Owner
 waiter own [] = nobody
 waiter own (x ∷ xs) = waits own x.call.event x.answer (length xs) (waiter own xs)
 
--- whose an outcome is: CANCELED, and all that comes of finger and second, is the waiting packet's; any other is its own packet's
+-- whose an outcome is: CANCELED, and all that comes of finger and second, is the waiting packet's; any other is its own
+-- packet's
 abbrev pub is_code : Code → Code → Bool
 is_code a b = code_number a == code_number b
 

@@ -20,7 +20,9 @@ sent_of own (y ∷ ys) = sent_in (reply_form own y.to) y.outcome y.«data» ++ s
 
 -- over a memory that is sound, every call says what is proper
 abbrev pub SaysProper : Type 0
-SaysProper = (s : State) → AllByRecursion (Sound s.size) s.held → (c : Call) (x : Step) → step_of s c ≡ Ok x → AllByRecursion ProperSaid x.said
+SaysProper =
+    (s : State) → AllByRecursion (Sound s.size) s.held
+    → (c : Call) (x : Step) → step_of s c ≡ Ok x → AllByRecursion ProperSaid x.said
 
 -- Param and Size fit their four bytes
 pub record FittingSaid (y : Said) : Type 0 where
@@ -30,4 +32,5 @@ pub record FittingSaid (y : Said) : Type 0 where
 -- the bytes of what is proper read as what was sent, and nothing more
 abbrev pub ProperReads : Type 0
 ProperReads =
-    (own : ℕ) (ys : List Said) → own < 2 ^ 16 → AllByRecursion FittingSaid ys → AllByRecursion ProperSaid ys → ReadAs (bytes_of own ys) (sent_of own ys)
+    (own : ℕ) (ys : List Said) → own < 2 ^ 16 → AllByRecursion FittingSaid ys → AllByRecursion ProperSaid ys
+    → ReadAs (bytes_of own ys) (sent_of own ys)

@@ -2,7 +2,7 @@
 use Rattle.std.proofs.Common.{◌≡◌, ℕ, ◌-◌, min, List, length, arith}
 use Rattle.memory.specs.Held.{Held}
 use Rattle.std.proofs.lemmas.List.{length-drop, length-map, length-take}
-use Rattle.requests.specs.Blocks.{block_of}
+use Rattle.device.specs.View.{block_of}
 
 pub block-length : (from most : ℕ) (h : List Held) → length (block_of from most h) ≡ min (length h - from) most
 block-length from most h = simp (length-take, length-drop, length-map) (omega arith)

@@ -1,5 +1,6 @@
 pub mod Blocks
 pub mod Ended
 pub mod Enrolled
+pub mod Numbered
 pub mod Sums
 pub mod Tested

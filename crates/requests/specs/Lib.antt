@@ -1,5 +1,3 @@
-pub mod Blocks
-pub mod Enrolling
 pub mod Fields
 pub mod Ending
 pub mod Levels

@@ -4,18 +4,17 @@ ghost use Rattle.device.specs.View.{phase_of, view};
 ghost use Rattle.device.specs.declared.awaited.FirstScan.{FirstScan};
 ghost use Rattle.machine.specs.Answers.{Step};
 ghost use Rattle.machine.specs.Enrollment.{enroll_fault, enroll_id};
-ghost use Rattle.machine.specs.Requests.{enroll, enroll_template};
+ghost use Rattle.machine.specs.Requests.{enroll, enroll_by, enroll_template, first_phase, is_missing};
 ghost use Rattle.machine.specs.Settings.{templates_in};
 ghost use Rattle.machine.specs.declared.enrollment.Enrollment.{Enrollment as Enrolling};
 ghost use Rattle.packet.specs.Requests.{request_parts};
 ghost use Rattle.requests.specs.Ending.{KeptOnErr, Obeys, or_fault};
-ghost use Rattle.requests.specs.Enrolling.{enroll_by, first_phase, is_missing};
 ghost use Rattle.requests.specs.Sizes.{sized};
 ghost use Rattle.std.specs.Option.{ok_or};
 ghost use Rattle.std.specs.Result.{result_err};
 
 use crate::answer::answer;
-use crate::fields::{flag_in, free_places, id_in};
+use crate::fields::{flag_in, free_places, has_any, id_in};
 use administrators::Right;
 use codes::{Code, EnrollFlag};
 use device::{Answers, Awaited, Device, LONGEST_TEMPLATE, enroll_one};
@@ -52,11 +51,12 @@ fn no_fault<M: Matcher, S: Memory>(
 ) -> Result<(), Code>
     ensures { result_err result ≡ enroll_fault (view M.Matcher S.Memory device.now) flag id needed }
 {
-    let held = count_of(&device.memory, id);
     match flag {
-        EnrollFlag::CheckId if held != 0 => Err(Code::ExistId),
+        EnrollFlag::CheckId if has_any(&device.memory, id) => Err(Code::ExistId),
         EnrollFlag::AddNew | EnrollFlag::CheckFinger
-            if held.saturating_add(needed) > MOST_TEMPLATES => { Err(Code::FingerLimit) }
+            if count_of(&device.memory, id).saturating_add(needed) > MOST_TEMPLATES => {
+            Err(Code::FingerLimit)
+        }
         _ if free_places(&device.memory) < needed => Err(Code::MemFull),
         _ => Ok(()),
     }

@@ -1,16 +1,17 @@
-ghost use Rattle.std.specs.Prelude.{◌≡◌, ◌-◌, length};
+ghost use Rattle.std.specs.Prelude.{◌≡◌, ◌-◌, not, length, ◌==◌};
 ghost use Rattle.codes.specs.Numbers.{case_of};
 ghost use Rattle.codes.specs.declared.code.Code.TheVariants.{InvalidId, Unsupported};
 ghost use Rattle.device.specs.View.{view};
 ghost use Rattle.machine.specs.Ids.{range_of};
 ghost use Rattle.requests.specs.Fields.{held_id, id_in};
+ghost use Rattle.search.specs.Ids.{count_of};
 ghost use Rattle.std.specs.Option.{ok_or};
 
 use codes::{Code, Numbered};
 use device::Device;
 use matcher::Matcher;
 use memory::Memory;
-use search::{IdRange, count_of};
+use search::{IdRange, place_of};
 
 /// What the flag stands for.
 pub(crate) fn flag_in<C: Numbered>(flag: u8) -> Result<C, Code>
@@ -29,12 +30,19 @@ pub(crate) fn id_in(param: u32) -> Result<u16, Code>
     }
 }
 
+/// Whether the ID has templates: a search that ends at the first.
+pub(crate) fn has_any<S: Memory>(memory: &S, id: u16) -> bool
+    ensures { result ≡ not (count_of id (S.Memory.held memory.now) == 0) }
+{
+    place_of(memory, id, 0).is_some()
+}
+
 /// The ID in Param, where it has templates.
 pub(crate) fn held_id<M: Matcher, S: Memory>(device: &Device<M, S>, param: u32) -> Result<u16, Code>
     ensures { result ≡ held_id (view M.Matcher S.Memory device.now) param }
 {
     let id = id_in(param)?;
-    if count_of(&device.memory, id) == 0 {
+    if !has_any(&device.memory, id) {
         return Err(Code::NotFound);
     }
     Ok(id)

@@ -62,7 +62,7 @@ fn has_data(request: Request<'_>) -> bool
 
 /// A request to a module that is not busy with another. Templates are compared in `work`, which is the
 /// caller's to clear. Where that is shorter than the longest template, or the request lacks the data that its Size
-/// says (one that was read from a frame has it), the request is refused and nothing changes.
+/// says (one that was read from a frame has it), the request is refused and nothing changes, `work` neither.
 pub fn start<M: Matcher, S: Memory>(
     device: &mut Device<M, S>,
     request: Request<'_>,
@@ -74,6 +74,7 @@ pub fn start<M: Matcher, S: Memory>(
         (Ok (started (view M.Matcher S.Memory device.old) (request_parts request.entry) request.entry.command))
         (Err DataLength)) }
     ensures refused { OnErr result (view M.Matcher S.Memory device.new ≡ view M.Matcher S.Memory device.old) }
+    ensures untouched { OnErr result (work.new ≡ work.old) }
 {
     let Some(work) = work.first_chunk_mut::<LONGEST_TEMPLATE>() else {
         return Err(Refusal::WorkBuffer);

@@ -32,6 +32,10 @@ row_of id template = (id % 256) ∷ (id / 256 % 256) ∷ template
 abbrev pub written : List ℕ → ℕ → List ℕ → List ℕ
 written bytes place row = paste bytes (place * 386) row 386
 
+-- rows once all but the first have moved down by one
+abbrev pub closed_first : List ℕ → List ℕ
+closed_first rows = paste rows 0 (drop 386 rows) (length rows - 386)
+
 -- the bytes once the counted rows past a place have moved down by one
 abbrev pub closed : List ℕ → ℕ → ℕ → List ℕ
 closed bytes count place = paste bytes (place * 386) (drop (place * 386 + 386) bytes) (count * 386 - (place * 386 + 386))

@@ -7,10 +7,13 @@ use Rattle.std.specs.List.{remove, AllByRecursion}
 use Rattle.std.proofs.lemmas.List.FromFn.{length-map-range_with_len, get_or-map-range_with_len, map-range_with_len_more}
 use Rattle.std.proofs.lemmas.List.Edits.{length-paste, paste_all, length-remove, get_or-remove_below, get_or-remove_above}
 use Rattle.std.proofs.ByRecursion.{All-append, All-drop, All-from_get_or, All-get_or, All-push, All-take}
-use Rattle.std.proofs.lemmas.List.{same_lists, places, with_items_is, length-take-le, length-drop, take_at, drop_at, get_or-take, get_or-drop}
+use Rattle.std.proofs.lemmas.List.{same_lists, places, with_items_is, append_assoc, length-take, length-take-le, length-drop}
+use Rattle.std.proofs.lemmas.List.{take_all, take_at, drop_at, take-append-drop, drop-take, drop-drop, get_or-take, get_or-drop}
+use Rattle.std.proofs.Math.Nat.{add_comm, zero-add}
 use Rattle.std.proofs.lemmas.Bool.{cases_lt}
+use borrow.Rule.Slice.PartMut.{put_mid}
 use Rattle.memory.specs.Held.{Held, Sound, none}
-use Rattle.row_memory.specs.Rows.{capacity_of, row_at, held_in, rows_in, AllSound, row_of, written, closed}
+use Rattle.row_memory.specs.Rows.{capacity_of, row_at, held_in, rows_in, AllSound, row_of, written, closed, closed_first}
 
 pub rows_length : (bs : List ℕ) (n : ℕ) → length (rows_in bs n) ≡ n
 rows_length bs n = length-map-range_with_len (λ k. held_in (row_at bs k)) 0 n
@@ -101,6 +104,30 @@ module _ (bs : List ℕ) (n id : ℕ) (t : List ℕ) (room : n < capacity_of bs)
       let room' = same-capacity added bs length-added in
       rw (came-back v (λ b. written b n (row_of id t)) same from long' wrote)
       (record { fits = omega arith; sound = sound-added some sound; holds = rows-added; room = room' })
+
+-- to move all rows of a part but its first is to move those past p
+first-closed : (xs : List ℕ) (m : ℕ) → let part = take (386 + m) xs in
+    (take m (drop 386 part) ++ drop m part) ++ drop (386 + m) xs ≡ take m (drop 386 xs) ++ drop m xs
+first-closed xs m =
+    let front : take m (drop 386 (take (386 + m) xs)) ≡ take m (drop 386 xs) = ap (take m) (drop-take 386 m xs) ∙ take_all m _ (omega (arith, length-take m (drop 386 xs))) in
+    let turn : drop m (take (386 + m) xs) ≡ take 386 (drop m xs) = ap (λ k. drop m (take k xs)) (add_comm 386 m) ∙ drop-take m 386 xs in
+    let rest : take 386 (drop m xs) ++ drop (386 + m) xs ≡ drop m xs =
+        ap (λ l. take 386 (drop m xs) ++ l) (ap (λ k. drop k xs) (add_comm 386 m) ∙ sym (drop-drop 386 m xs)) ∙ take-append-drop 386 (drop m xs) in
+    rw (front, turn)
+    (append_assoc (take m (drop 386 xs)) (take 386 (drop m xs)) (drop (386 + m) xs) ∙ ap (λ l. take m (drop 386 xs) ++ l) rest)
+
+pub closed-within : (bs : List ℕ) (n p : ℕ) → p < n → n * 386 ≤ length bs
+    → put_mid (p * 386) (n * 386 - p * 386) bs (closed_first (take (n * 386 - p * 386) (drop (p * 386) bs))) ≡ closed bs n p
+closed-within bs n p inside long =
+    let a = p * 386 in
+    let xs = drop a bs in
+    let m = n * 386 - (a + 386) in
+    let size : n * 386 - a ≡ 386 + m = omega arith in
+    let moves : length (take (386 + m) xs) - 386 ≡ m = omega (arith, length-take-le (386 + m) xs (omega (arith, length-drop a bs))) in
+    let from : drop (a + 386) bs ≡ drop 386 xs = sym (drop-drop 386 a bs) in
+    let rest : drop (a + m) bs ≡ drop m xs = sym (drop-drop m a bs) in
+    rw (size, moves, zero-add m, from, rest)
+    (ap (λ l. take a bs ++ l) (first-closed xs m) ∙ sym (append_assoc (take a bs) (take m (drop 386 xs)) (drop m xs)))
 
 -- the counted rows past p move down by one
 module _ (bs : List ℕ) (n p : ℕ) (fits : n ≤ capacity_of bs) (inside : p < n) where

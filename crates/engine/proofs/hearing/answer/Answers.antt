@@ -22,5 +22,5 @@ returns-clause-value g c = λ ready whole.
       | else-device-via-else-device w ↦ unlocked-hears s.locked _ w.if-device.false
     ] in
     lets_through s q _ whole hears
-    (c.decide.ensures.value ready
+    (c.decide.ensures.value tt
     ∙ ap (λ b. cond b (Err WorkBuffer) (decided s (Packet c.args.request))) (le-ltb (length c.args.work.now) 384 c.requires))

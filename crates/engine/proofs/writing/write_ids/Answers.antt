@@ -1,7 +1,7 @@
 use Rattle.std.proofs.Common.{◌≡◌, ℕ, ◌+◌, ◌*◌, ◌<◌, cond, ◌++◌, length, take, drop, Some, None, unwrap_or, sym, ap, ◌∙◌, subst, arith}
 use Rattle.engine.proofs.Blocks.{all-written, block_at, one_more}
 use Rattle.requests.proofs.Blocks.{block-length}
-use Rattle.requests.specs.Blocks.{block_of}
+use Rattle.device.specs.View.{block_of}
 use Rattle.memory.specs.Held.{held_at}
 use Rattle.packet.specs.Numbers.{bytes32}
 use Rattle.promises.proofs.Sent.{length_ids}

@@ -1,5 +1,5 @@
 use Rattle.std.proofs.Common.{◌≡◌, ◌*◌, ◌++◌, length, take, drop}
-use Rattle.requests.specs.Blocks.{block_of}
+use Rattle.device.specs.View.{block_of}
 use Rattle.packet.specs.Numbers.{bytes32}
 use Rattle.std.specs.List.{flat_map}
 use Rattle.engine.proofs.writing.write_ids.Given as goal

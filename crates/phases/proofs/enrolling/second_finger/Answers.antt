@@ -1,8 +1,5 @@
 use Rattle.std.proofs.Common.{take, sym, refl, ◌∙◌}
-use Rattle.device.specs.View.{view}
 use Rattle.machine.specs.State.Phase.{second_finger}
-use Rattle.phases.proofs.Templates.{seconds}
-use Rattle.phases.specs.Told.{waiting_for}
 use Rattle.phases.proofs.enrolling.second_finger.Goals as goal
 
 pub returns-then-not-agrees : goal.returns-then-not-agrees
@@ -15,12 +12,7 @@ returns-then-not-agrees g c = λ can.
 pub returns : goal.returns
 returns g c = λ can.
     let d = c.args.device.now in
-    let s = view g.M.Matcher g.S.Memory d in
-    let e = c.args.enrollment in
-    let x = c.args.scan in
-    let one = take g.S.Memory.T d.first.bytes in
-    let p = second_finger e one d.first.quality in
+    let p = second_finger c.args.enrollment (take g.S.Memory.T d.first.bytes) d.first.quality in
     let held = c.enroll_scans.ensures.after can.some_id can.places in
     let agree = rw c.T-size.ensures at c.if-not-agrees.ensures in
     c.succeed.ensures p refl ∙ rw (c.enroll_scans.ensures.room_same, held, c.max-best.ensures, ← agree)
-    (seconds s (waiting_for d p) e d.settings.enroll one x.bytes.now d.first.quality x.quality)

@@ -1,0 +1,46 @@
+use codes::Refusal;
+use engine::{Answer, Outcomes};
+
+/// How many of the last bytes that a call writes are taken in: the checksum of its last packet is among them.
+const LAST: usize = 15;
+
+/// What refusals are told from codes by.
+const REFUSED: u32 = 256;
+
+/// A checksum of what calls answer: two engines that do the same work have the same.
+#[derive(Clone, Copy)]
+pub(crate) struct Checksum(pub u32);
+
+impl Checksum {
+    fn fold(&mut self, value: u32) {
+        self.0 = self.0.wrapping_mul(31).wrapping_add(value);
+    }
+
+    fn outcomes(&mut self, outcomes: Outcomes) {
+        match outcomes {
+            Outcomes::Nothing => {}
+            Outcomes::One(outcome) => self.fold(u32::from(u8::from(outcome.code))),
+            Outcomes::Two(first, second) => {
+                self.fold(u32::from(u8::from(first.code)));
+                self.fold(u32::from(u8::from(second.code)));
+            }
+        }
+    }
+
+    fn answer(&mut self, answer: Answer, out: &[u8]) {
+        let written = answer.written(out);
+        self.outcomes(answer.outcomes);
+        self.fold(u32::try_from(written.len()).unwrap_or(u32::MAX));
+        for byte in &written[written.len().saturating_sub(LAST)..] {
+            self.fold(u32::from(*byte));
+        }
+    }
+
+    /// Takes in what a call gave.
+    pub fn take(&mut self, given: Result<Answer, Refusal>, out: &[u8]) {
+        match given {
+            Ok(answer) => self.answer(answer, out),
+            Err(refusal) => self.fold(REFUSED + u32::from(u8::from(refusal))),
+        }
+    }
+}

@@ -1,8 +1,10 @@
 //! A line of the bench, read as what it asks of a module.
 #![tactic(auto)]
 
-ghost use Rattle.std.specs.Prelude.{◌≡◌, ◌/◌, ◌<◌, [], ◌∷◌, length, IfOk, IfSome, OnErr, Some, None, vec_capacity, codes};
-ghost use Rattle.benchline.specs.Lines.{bench_line, blank, bytes_behind, finger, finger_of, line_text, packet, second, seen};
+ghost use Rattle.std.specs.Prelude.{◌≡◌, ◌/◌, ◌<◌, [], ◌∷◌, length, vec_capacity, codes};
+ghost use Rattle.std.specs.Prelude.{IfOk, IfSome, OnErr, Some, None};
+ghost use Rattle.benchline.specs.Lines.{bench_line, blank, bytes_behind, finger, finger_of};
+ghost use Rattle.benchline.specs.Lines.{line_text, packet, second, seen};
 ghost use Rattle.digits.specs.Digits.{hex_text};
 ghost use Rattle.std.specs.List.{AllByRecursion};
 ghost use Rattle.std.specs.Option.{option_copied, option_map};
@@ -50,8 +52,9 @@ fn finger_of(bytes: &[u8]) -> Option<Line<'_>>
     }
 }
 
-/// Reads a line, which comes without its end; an ill-formed one asks nothing. The buffer is lent so that one serves
-/// all lines: once it has room for the longest, no more memory is wanted.
+/// Reads a line, which comes without its end; an ill-formed one asks nothing, and is a `None`. The buffer takes the
+/// bytes of what is asked in place of what it held, and lends them. An `Err` says that there is no memory for them, and
+/// comes only where the buffer has no room for half as many bytes as the line: so one buffer serves all lines.
 pub fn read_line<'a>(line: &[u8], buffer: &'a mut Vec<u8>) -> Result<Option<Line<'a>>, AllocError>
     ensures value { IfOk result (λ asked. option_map seen asked ≡ bench_line line.now) }
     ensures back { IfOk result (λ asked. IfSome asked (λ l. line_text (seen l) ≡ line.now)) }

@@ -1,5 +1,6 @@
 -- The steps of a loop that reads digits two by two, and what it read, spelled again.
 use Rattle.std.proofs.Common.{◌≡◌, ℕ, zero, suc, ◌+◌, ◌*◌, ◌/◌, ◌%◌, ◌<◌, ◌≤◌, List, [], ◌∷◌, ◌++◌, length, get_or, take, drop, Some, None, Ok, Err, Option, Result, sym, refl, ap, ◌∙◌, arith}
+use Rattle.std.specs.List.{All}
 use Rattle.std.specs.Simd.{first_chunks}
 use Rattle.std.proofs.lemmas.List.{append_assoc, append-nil, drop-drop, drop_all, length-drop}
 use Rattle.std.proofs.lemmas.Bool.Decides.{nat_tests}
@@ -104,3 +105,15 @@ spelled at (x ∷ y ∷ rest) bs e =
 -- nothing is left
 pub read_all : (at : ℕ) (xs done : List ℕ) (r : Result (List ℕ) Fault) → length xs ≤ at → after done (bytes_from at (drop at xs)) ≡ r → r ≡ Ok done
 read_all at xs done r h e = sym e ∙ ap (λ l. after done (bytes_from at l)) (drop_all at xs h) ∙ ap Ok (append-nil done)
+
+digit-read : (n : ℕ) → n < 16 → digit_value (digit_of n) ≡ Some n
+digit-read n h = grind (arith, nat_tests)
+
+-- the digits of some bytes read as those bytes
+pub read-back : (at : ℕ) (bs : List ℕ) → All (λ b. b < 256) bs → bytes_from at (hex_text bs) ≡ Ok bs
+read-back at [] h = refl
+read-back at (b ∷ bs) h =
+    let high = digit-read (b / 16) (omega (arith, h 0 0 (omega arith))) in
+    let low = digit-read (b % 16) (omega arith) in
+    let whole : b / 16 * 16 + b % 16 ≡ b = omega arith in
+    rw (high, low, whole, read-back (at + 2) bs (λ k d l. h (suc k) d (omega arith)))

@@ -1,7 +1,9 @@
--- The step of a loop that writes bytes as digits.
-use Rattle.std.proofs.Common.{◌≡◌, ℕ, ◌+◌, ◌/◌, ◌%◌, ◌<◌, List, [], ◌∷◌, ◌++◌, length, get_or, take, sym, refl, ap, ◌∙◌}
-use Rattle.std.proofs.lemmas.List.{append_assoc, take_more}
-use Rattle.digits.specs.Digits.{digit_of, hex_text}
+-- The step of a loop that writes bytes as digits, and what it wrote, read again.
+use Rattle.std.proofs.Common.{◌≡◌, ℕ, ◌+◌, ◌/◌, ◌%◌, ◌<◌, ◌≤◌, List, [], ◌∷◌, ◌++◌, length, get_or, take, drop, Ok, sym, refl, ap, ◌∙◌}
+use Rattle.std.proofs.lemmas.List.{append_assoc, drop_at, take_all, take_more}
+use Rattle.std.specs.List.{All}
+use Rattle.digits.specs.Digits.{digit_of, hex_bytes, hex_text}
+use Rattle.digits.proofs.Pairs.{read-back}
 
 hex-append : (xs ys : List ℕ) → hex_text (xs ++ ys) ≡ hex_text xs ++ hex_text ys
 hex-append [] ys = refl
@@ -16,3 +18,10 @@ pair-more text before once twice bytes i high low lt inv e f h l =
     ∙ append_assoc (text ++ hex_text (take i bytes)) (high ∷ []) (low ∷ []) ∙ append_assoc text (hex_text (take i bytes)) (high ∷ low ∷ [])
     ∙ ap (λ t. text ++ (hex_text (take i bytes) ++ t)) (ap (λ n. n ∷ low ∷ []) h ∙ ap (λ n. digit_of (get_or bytes i 0 / 16) ∷ n ∷ []) l)
     ∙ ap (λ t. text ++ t) (sym (hex-append (take i bytes) (get_or bytes i 0 ∷ [])) ∙ ap hex_text (sym (take_more bytes i 0 lt)))
+
+-- what stands behind the text reads as the bytes
+pub reads-back : (text before bytes out : List ℕ) (n i : ℕ) → length text ≡ n → before ≡ text → length bytes ≤ i
+    → out ≡ before ++ hex_text (take i bytes) → All (λ b. b < 256) bytes → hex_bytes (drop n out) ≡ Ok bytes
+reads-back text before bytes out n i l same all e fits =
+    ap (λ t. hex_bytes (drop n t)) (e ∙ ap (λ t. t ++ hex_text (take i bytes)) same ∙ ap (λ bs. text ++ hex_text bs) (take_all i bytes all))
+    ∙ ap hex_bytes (drop_at text (hex_text bytes) n l) ∙ read-back 0 bytes fits

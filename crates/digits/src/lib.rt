@@ -1,7 +1,8 @@
 //! Bytes written as pairs of hexadecimal digits, 0 to 9 and A to F.
 #![tactic(auto)]
 
-ghost use Rattle.std.specs.Prelude.{◌≡◌, ◌+◌, ◌*◌, ◌/◌, ◌^◌, ◌<◌, ◌++◌, length, IfOk, IfErr, Ok, alloc_error, vec_len, vec_capacity, MatchResult, OnErr, OnOk};
+ghost use Rattle.std.specs.Prelude.{◌≡◌, ◌≢◌, ◌+◌, ◌*◌, ◌/◌, ◌^◌, ◌<◌, ◌≤◌, [], ◌++◌, length, drop};
+ghost use Rattle.std.specs.Prelude.{IfOk, IfErr, MatchResult, OnErr, OnOk, Ok, alloc_error, vec_len, vec_capacity};
 ghost use Rattle.digits.specs.Digits.{Because, byte_from, digit_from, digit_of, digit_value, hex_bytes, hex_text};
 ghost use Rattle.digits.specs.declared.Fault.TheVariants.{Memory};
 
@@ -54,30 +55,31 @@ fn byte_from(at: usize, high: u8, low: u8) -> Result<u8, Fault>
     Ok(h * 16 + l)
 }
 
-/// The bytes of a text of digits, high digit first.
+/// The bytes of a text of digits, high digit first. A text of no digits wants no memory.
 pub fn read_hex(heap: Global, digits: &[u8]) -> Result<Vec<u8>, Fault>
     ensures value { MatchResult result
         (λ v. hex_bytes digits.now ≡ Ok v.items)
         (λ e. Because e (hex_bytes digits.now)) }
     ensures back { IfOk result (λ v. hex_text v.items ≡ digits.now) }
+    ensures room { IfErr result (λ e. e ≡ Fault.Memory alloc_error
+        → 0 < length digits.now / 2) }
 {
     let mut bytes = Vec::new(heap);
     read_hex_into(digits, &mut bytes)?;
     Ok(bytes)
 }
 
-/// Reads a text of digits into a buffer, in place of what it held: one buffer serves many texts,
-/// and once it has room for the longest no more memory is wanted.
-pub fn read_hex_into(digits: &[u8], bytes: &mut Vec<u8>) -> Result<(), Fault>
+/// Reads a text of digits into an empty buffer that has room for its bytes.
+fn read_pairs(digits: &[u8], bytes: &mut Vec<u8>) -> Result<(), Fault>
+    requires empty { bytes.old.items ≡ [] }
+    requires room { length digits.now / 2 ≤ vec_capacity bytes.old }
     ensures value { MatchResult result
         (λ _. hex_bytes digits.now ≡ Ok bytes.new.items)
         (λ e. Because e (hex_bytes digits.now)) }
     ensures back { OnOk result (hex_text bytes.new.items ≡ digits.now) }
-    ensures room { IfErr result (λ e. e ≡ Fault.Memory alloc_error
-        → vec_capacity bytes.old < length digits.now / 2) }
+    ensures no_memory { IfErr result (λ e. e ≢ Fault.Memory alloc_error) }
+    ensures capacity { vec_capacity bytes.new ≡ vec_capacity bytes.old }
 {
-    bytes.clear();
-    bytes.reserve(digits.len() / 2)?;
     let (pairs, last) = digits.as_chunks::<2>();
     for (index, [high, low]) in pairs.iter().enumerate() {
         bytes.push_reserved(byte_from(2 * index, *high, *low)?);
@@ -87,6 +89,27 @@ pub fn read_hex_into(digits: &[u8], bytes: &mut Vec<u8>) -> Result<(), Fault>
         return Err(Fault::Odd);
     }
     Ok(())
+}
+
+/// Reads a text of digits into a buffer, in place of what it held: one buffer serves many texts,
+/// and once it has room for the longest no more memory is wanted. After an `Err` it holds nothing.
+pub fn read_hex_into(digits: &[u8], bytes: &mut Vec<u8>) -> Result<(), Fault>
+    ensures value { MatchResult result
+        (λ _. hex_bytes digits.now ≡ Ok bytes.new.items)
+        (λ e. Because e (hex_bytes digits.now)) }
+    ensures back { OnOk result (hex_text bytes.new.items ≡ digits.now) }
+    ensures empty { OnErr result (bytes.new.items ≡ []) }
+    ensures room { IfErr result (λ e. e ≡ Fault.Memory alloc_error
+        → vec_capacity bytes.old < length digits.now / 2) }
+    ensures kept { vec_capacity bytes.old ≤ vec_capacity bytes.new }
+{
+    bytes.clear();
+    bytes.reserve(digits.len() / 2)?;
+    let read = read_pairs(digits, bytes);
+    if read.is_err() {
+        bytes.clear();
+    }
+    read
 }
 
 /// The digit of a value below 16.
@@ -100,16 +123,19 @@ fn digit_of(value: u8) -> u8
     }
 }
 
-/// Writes bytes as digits behind a text, high digit first.
+/// Writes bytes as digits behind a text, high digit first. After an `Err` the text is as it was.
 pub fn write_hex(text: &mut Vec<u8>, bytes: &[u8]) -> Result<(), AllocError>
     ensures value { OnOk result (text.new.items
         ≡ text.old.items ++ hex_text bytes.now) }
+    ensures reads { OnOk result (hex_bytes (drop (vec_len text.old) text.new.items) ≡ Ok bytes.now) }
+    ensures unchanged { OnErr result (text.new.items ≡ text.old.items) }
     ensures room { OnErr result (vec_capacity text.old
         < vec_len text.old + 2 * length bytes.now) }
 {
+    text.reserve(2 * bytes.len())?;
     for b in bytes {
-        text.push(digit_of(b / 16))?;
-        text.push(digit_of(b % 16))?;
+        text.push_reserved(digit_of(b / 16));
+        text.push_reserved(digit_of(b % 16));
     }
     Ok(())
 }

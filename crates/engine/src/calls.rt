@@ -37,6 +37,7 @@ fn outcomes_of(answers: Answers) -> Outcomes
 
 impl<M: Matcher, S: Memory> Module<M, S> {
     /// A call whose buffers are long enough: whatever comes of it, the work buffer is cleared.
+    #[inline(always)]
     fn serve_within(
         &mut self,
         event: Event<&[u8], Scan<'_>>,
@@ -62,6 +63,7 @@ impl<M: Matcher, S: Memory> Module<M, S> {
     }
 
     /// A call: too short a buffer is refused before all else, and then nothing is touched.
+    #[inline(always)]
     fn serve(
         &mut self,
         event: Event<&[u8], Scan<'_>>,

@@ -25,6 +25,7 @@ fn is_unlock(command: Coded<Command>) -> bool
 }
 
 /// A request: a locked module hears nothing but UM.
+#[inline(always)]
 fn answer<M: Matcher, S: Memory>(
     device: &mut Device<M, S>,
     request: Request<'_>,
@@ -43,6 +44,7 @@ fn answer<M: Matcher, S: Memory>(
 }
 
 /// The bytes of a frame.
+#[inline(always)]
 fn hear_frame<M: Matcher, S: Memory>(
     device: &mut Device<M, S>,
     frame: &[u8],
@@ -57,6 +59,7 @@ fn hear_frame<M: Matcher, S: Memory>(
 }
 
 /// What a call is given.
+#[inline(always)]
 pub(crate) fn hear<M: Matcher, S: Memory>(
     device: &mut Device<M, S>,
     event: Event<&[u8], Scan<'_>>,

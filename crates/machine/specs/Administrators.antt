@@ -1,5 +1,6 @@
 -- The table of administrators: at most 16 rows, each an ID and a level.
-use Rattle.std.specs.Prelude.{ℕ, Bool, true, false, cond, ◌||◌, List, [], ◌∷◌, ◌++◌, length, is_some, Some, None, Option, ◌==◌, nat_lt}
+use Rattle.std.specs.Prelude.{ℕ, Bool, true, false, cond, ◌||◌, List, [], ◌∷◌, ◌++◌, length, is_some, Some, None}
+use Rattle.std.specs.Prelude.{Option, ◌==◌, nat_lt}
 use Rattle.machine.specs.declared.level.AdminRow.{AdminRow}
 use Rattle.machine.specs.declared.level.Level.{Level}
 use Rattle.machine.specs.declared.level.Level.TheVariants.{Enroll, Delete, All}

@@ -1,5 +1,6 @@
 -- Enrolling: which ID, what may stand in the way, and what is held afterwards.
-use Rattle.std.specs.Prelude.{ℕ, ◌+◌, ◌-◌, Bool, true, false, cond, not, ◌&&◌, List, ◌++◌, map, length, Some, None, Option, ◌==◌, nat_lt}
+use Rattle.std.specs.Prelude.{ℕ, ◌+◌, ◌-◌, Bool, true, false, cond, not, ◌&&◌, List, ◌++◌, map, length, Some, None}
+use Rattle.std.specs.Prelude.{Option, ◌==◌, nat_lt}
 use Rattle.codes.specs.declared.code.Code.{Code}
 use Rattle.codes.specs.declared.code.Code.TheVariants.{ExistId, FingerLimit, MemFull}
 use Rattle.codes.specs.declared.flag.EnrollFlag.{EnrollFlag}

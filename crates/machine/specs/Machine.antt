@@ -1,5 +1,6 @@
 -- Calls, and what they answer: the whole machine.
-use Rattle.std.specs.Prelude.{ℕ, cond, ◌||◌, List, [], ◌∷◌, ◌++◌, length, drop, replicate, Some, None, Ok, Err, Option, Result, nat_lt}
+use Rattle.std.specs.Prelude.{ℕ, cond, ◌||◌, List, [], ◌∷◌, ◌++◌, length, drop, replicate, Some, None, Ok, Err}
+use Rattle.std.specs.Prelude.{Option, Result, nat_lt}
 use Rattle.codes.specs.declared.code.Code.TheVariants.{Success, Busy, Canceled, Locked}
 use Rattle.codes.specs.declared.command.Command.TheVariants.{Cancel, Unlock}
 use Rattle.codes.specs.Commands.{command_number}

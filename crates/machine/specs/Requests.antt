@@ -1,5 +1,6 @@
 -- What an idle module makes of a request, command by command.
-use Rattle.std.specs.Prelude.{ℕ, ◌+◌, ◌-◌, ◌*◌, Bool, true, false, cond, not, ◌&&◌, List, [], ◌∷◌, map, length, take, drop, Some, None, Option, ◌==◌, nat_le}
+use Rattle.std.specs.Prelude.{ℕ, ◌+◌, ◌-◌, ◌*◌, Bool, true, false, cond, not, ◌&&◌, List, [], ◌∷◌, map, length}
+use Rattle.std.specs.Prelude.{take, drop, Some, None, Option, ◌==◌, nat_le}
 use Rattle.codes.specs.Flags.{flag_number, flags}
 use Rattle.codes.specs.Numbers.{case_of}
 use Rattle.codes.specs.Parameters.{parameter_number, parameters}
@@ -64,7 +65,8 @@ use Rattle.machine.specs.Ids.{is_id, range_of}
 use Rattle.machine.specs.Searches.{any_agrees, without}
 use Rattle.machine.specs.Settings.{enroll_mode_number, network_number, set, setting_of, switch_number, templates_in}
 use Rattle.machine.specs.State.{Phase, State, awaiting, configured, guarded, holding, locking}
-use Rattle.machine.specs.State.Phase.{grant_to_enroll, grant_to_delete, first_finger, person_to_verify, person_to_identify}
+use Rattle.machine.specs.State.Phase.{grant_to_enroll, grant_to_delete, first_finger, person_to_verify}
+use Rattle.machine.specs.State.Phase.{person_to_identify}
 use Rattle.machine.specs.declared.level.Level.{Level}
 use Rattle.machine.specs.declared.enrollment.Enroller.{Enroller}
 use Rattle.machine.specs.declared.enrollment.Enroller.TheVariants.{Host, Administrator}

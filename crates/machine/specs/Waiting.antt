@@ -1,5 +1,6 @@
 -- Fingers and seconds: what a request waits for and the call that comes decide together.
-use Rattle.std.specs.Prelude.{ℕ, ◌-◌, max, cond, not, ◌&&◌, ◌||◌, List, [], ◌∷◌, length, is_some, Some, None, Option, ◌==◌, nat_lt}
+use Rattle.std.specs.Prelude.{ℕ, ◌-◌, max, cond, not, ◌&&◌, ◌||◌, List, [], ◌∷◌, length, is_some, Some, None}
+use Rattle.std.specs.Prelude.{Option, ◌==◌, nat_lt}
 use Rattle.codes.specs.declared.code.Code.{Code}
 use Rattle.codes.specs.declared.code.Code.TheVariants.{
   Success,

@@ -1,5 +1,6 @@
 -- Worked examples: what the machine, and the definitions below it, give at particular numbers.
-use Rattle.std.specs.Prelude.{◌≡◌, ℕ, ◌+◌, ◌-◌, ◌*◌, ◌≤◌, true, false, List, [], ◌∷◌, map, length, drop, Some, None, Ok, slice_index}
+use Rattle.std.specs.Prelude.{◌≡◌, ℕ, ◌+◌, ◌-◌, ◌*◌, ◌≤◌, true, false, List, [], ◌∷◌, map, length, drop, Some, None}
+use Rattle.std.specs.Prelude.{Ok, slice_index}
 use Rattle.codes.specs.declared.code.Code.TheVariants.{Success, InvalidId, FingerLimit}
 use Rattle.codes.specs.declared.command.Command.{Command}
 use Rattle.codes.specs.declared.command.Command.TheVariants.{Enroll, ListTemplates}

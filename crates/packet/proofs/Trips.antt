@@ -21,9 +21,9 @@ use Rattle.packet.specs.Numbers.{checksum_of}
 use Rattle.packet.specs.Heads.{head_bytes, read_head, summed_bytes}
 use Rattle.packet.specs.Data.{asks_with_data, answers_with_data, data_bytes, split_data}
 use Rattle.packet.specs.Requests.{RequestParts, nothing_behind, read_request, request_of, request_head, request_bytes, with_data}
-use Rattle.codes.specs.Known.{known-code}
+use Rattle.codes.proofs.Known.{known-code}
 use Rattle.packet.specs.Responses.{ResponseParts, answered, bytes_in, carries, either_head, outcome_bytes, outcome_head, read_response, reply_bytes, reply_form, response_of}
-use Rattle.packet.specs.Trips.{AsRead, Belongs, HeardIn, FormFits, Heard, Proper, ReadAs, sent, sent_in}
+use Rattle.packet.specs.Trips.{AsRead, Belongs, HeardIn, Heard, Proper, ReadAs, sent, sent_in}
 
 -- four bytes, low first, are the number again
 whole32 : (n : ℕ) → n < 2 ^ 32
@@ -85,6 +85,11 @@ requests-read-back mode own q h =
     ap (request_of own) head
     ∙ ap (λ b. cond b (with_data (request_head q) (nothing_behind (split_data carried q.size (data_bytes carried q.«data»)))) (Err Terminal)) h.for_it
     ∙ ap (λ r. with_data (request_head q) (nothing_behind r)) body
+
+-- a form with a terminal number of two bytes
+abbrev pub FormFits : Form → Type 0
+FormFits Standard = Unit {0}
+FormFits (Network n) = n < 2 ^ 16
 
 read-either : (form : Form) (command : Coded Command) (param size flag : ℕ) (rest : List ℕ) → FormFits form
     → AsRead command → param < 2 ^ 32 → size < 2 ^ 32

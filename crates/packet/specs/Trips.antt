@@ -30,10 +30,6 @@ HeardIn Single (Network n) = ⊥
 HeardIn Networked Standard = ⊥
 HeardIn Networked (Network n) = n < 2 ^ 16
 
-abbrev pub FormFits : Form → Type 0
-FormFits Standard = Unit {0}
-FormFits (Network n) = n < 2 ^ 16
-
 -- a request that the module `own` hears in a mode
 pub record Heard (mode : NetworkMode) (own : ℕ) (q : RequestParts) : Type 0 where
   pub form_heard : HeardIn mode q.form

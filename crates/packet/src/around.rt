@@ -8,8 +8,8 @@ use crate::response::{Outcome, carries_data, outcome_head, reply_form};
 use crate::write::{head_length, write_head};
 
 /// Where the data of a reply to a request of this form stands in the reply; none for a broadcast, and
-/// none for an outcome that carries no data. The IDs that LT answers are put there before the packet,
-/// since no other buffer holds them all.
+/// none for an outcome that carries no data. What LT and RT answer is put there before the packet,
+/// straight from the memory: no other buffer holds all the IDs that LT answers.
 pub fn data_place(to: Form, outcome: Outcome) -> Option<usize>
     ensures { result ≡ data_place to outcome }
 {

@@ -3,7 +3,8 @@ ghost use Rattle.codes.specs.declared.network.NetworkMode.{NetworkMode};
 ghost use Rattle.packet.specs.Data.{asks_with_data, data_bytes, seen_bytes, split_data};
 ghost use Rattle.packet.specs.Heads.{head_bytes, read_head, seen_head};
 ghost use Rattle.packet.specs.Packets.{written, written_count};
-ghost use Rattle.packet.specs.Requests.{is_for, nothing_behind, read_request, request_bytes, request_parts, seen_request};
+ghost use Rattle.packet.specs.Requests.{is_for, nothing_behind, read_request};
+ghost use Rattle.packet.specs.Requests.{request_bytes, request_parts, seen_request};
 ghost use Rattle.packet.specs.Trips.{Heard};
 
 use crate::behind::{asks_with_data, split_data};
@@ -48,6 +49,7 @@ fn request_data(head: Head, rest: &[u8]) -> Result<&[u8], Refusal>
 }
 
 /// Takes a packet apart, in the form that is heard.
+#[inline(always)]
 fn heard_head(mode: NetworkMode, frame: &[u8]) -> Result<(Head, &[u8]), Refusal>
     ensures value { seen_head result ≡ read_head mode frame.now }
     ensures back { IfOk result (λ x. head_bytes x.0 ++ x.1.now ≡ frame.now) }
@@ -59,6 +61,7 @@ fn heard_head(mode: NetworkMode, frame: &[u8]) -> Result<(Head, &[u8]), Refusal>
 }
 
 /// Reads a frame, as the module `own` hears it.
+#[inline(always)]
 pub fn read_request(frame: &[u8], mode: NetworkMode, own: u16) -> Result<Request<'_>, Refusal>
     ensures value { seen_request result ≡ read_request mode own frame.now }
     ensures back { IfOk result (λ q. request_bytes (request_parts q) ≡ frame.now) }

@@ -1,7 +1,8 @@
 ghost use Rattle.std.specs.Prelude.{◌≡◌, ◌++◌, length, take, IfSome};
 ghost use Rattle.packet.specs.Heads.{seen_head};
 ghost use Rattle.packet.specs.Packets.{written, written_count};
-ghost use Rattle.packet.specs.Responses.{carries, either_head, outcome_head, read_response, reply_bytes, reply_form, seen_response, sent_bytes};
+ghost use Rattle.packet.specs.Responses.{carries, either_head, outcome_head, read_response, seen_response};
+ghost use Rattle.packet.specs.Responses.{reply_bytes, reply_form, sent_bytes};
 ghost use Rattle.packet.specs.Trips.{Proper, ReadAs, sent};
 
 use crate::behind::{answers_with_data, split_data};
@@ -120,6 +121,7 @@ impl<'a> Reply<'a> {
 
 /// Writes a reply at the front of `out`, and says how many bytes it takes: none for a broadcast.
 /// Where it has no room, nothing is written.
+#[inline(always)]
 pub fn write_reply(out: &mut [u8], own: u16, reply: Reply<'_>) -> Option<usize>
     ensures count { result ≡ written_count (reply_bytes own reply.entry) out.old }
     ensures bytes { out.new ≡ written (reply_bytes own reply.entry) out.old }

@@ -7,6 +7,7 @@ use crate::form::{END_CODE, Form, Head, NETWORK_START, Packet, STANDARD_START};
 
 /// Writes what the checksum of a packet is over, its start and its fields, then the checksum and the end
 /// code at the front of `out`, and says how many bytes that are.
+#[inline(always)]
 fn write_closed(out: &mut [u8], start: &[u8], fields: &[u8]) -> usize
     requires { length start.now + length fields.now + 2 ≤ length out.old }
     ensures count { result ≡ length start.now + length fields.now + 2 }
@@ -23,6 +24,7 @@ fn write_closed(out: &mut [u8], start: &[u8], fields: &[u8]) -> usize
 }
 
 /// Writes a packet without data at the front of `out`, and says how long it is.
+#[inline(always)]
 pub(crate) fn write_head(out: &mut [u8], head: Head) -> usize
     requires { head_length head.form ≤ length out.old }
     ensures count { result ≡ head_length head.form }
@@ -76,6 +78,7 @@ impl Packet<'_> {
 
     /// Writes it with the data that it carries at the front of `out`, and says how many bytes it takes.
     /// Where it has no room, nothing is written.
+    #[inline(always)]
     pub fn write(self, out: &mut [u8]) -> Option<usize>
         ensures count { result ≡ written_count (bytes_of self.entry) out.old }
         ensures bytes { out.new ≡ written (bytes_of self.entry) out.old }

@@ -1,8 +1,8 @@
--- A template less: its record goes behind the others, so that its page is the first free one.
+-- A template less: its record goes behind the others, so that its page is free.
 use Rattle.std.proofs.Common.{◌≡◌, ℕ, Bool, suc, ◌+◌, ◌-◌, ◌<◌, ◌≤◌, cond, eqb, ltb, ◌≢◌, List, [], ◌∷◌, ◌++◌, map, length, get_or, take, drop, Some, sym, refl, ap, ◌∙◌, ⊎_elim, arith}
 use Rattle.std.specs.List.{position_or_len, remove}
 use Rattle.std.proofs.lemmas.List.Sums.{position_or_len_is}
-use Rattle.std.proofs.lemmas.List.{length-append, length-drop, length-take-le, drop_more, get_or_at, get_or-take, get_or-drop, get_or_append_left, get_or-append_right, map-append, take-map, drop-map, take_all, drop_all, take_at, append_assoc, append-nil}
+use Rattle.std.proofs.lemmas.List.{length-append, length-drop, length-take-le, drop_more, get_or_at, get_or-take, get_or-drop, get_or_append_left, get_or-append_right, map-append, take-map, drop-map, take_at, append_assoc}
 use Rattle.std.proofs.lemmas.List.Edits.{length-remove, get_or-remove_below, get_or-remove_above}
 use Rattle.std.proofs.lemmas.Bool.{cases_lt, cases_eq, cases_order, eq-eqb, ne_eqb}
 use Rattle.std.proofs.lemmas.Bool.Decides.{nat_tests}
@@ -23,9 +23,6 @@ found_at {X = X} key_of xs at d inside first =
 
 pub map-removed : {X Y : Type 0} (f : X → Y) (xs : List X) (at : ℕ) → map f (remove xs at) ≡ remove (map f xs) at
 map-removed f xs at = map-append f (take at xs) (drop (suc at) xs) ∙ rw (take-map, drop-map)
-
-pub removed-past : {X : Type 0} (xs : List X) (at : ℕ) → length xs ≤ at → xs ≡ remove xs at
-removed-past xs at l = sym (rw (take_all at xs l, drop_all (suc at) xs (omega arith)) (append-nil xs))
 
 module _ (m : PageMemory) (place : ℕ) (there : place < m.count) where
   abbrev front : List Record

@@ -1,6 +1,7 @@
 -- Pages of 256 bytes, and a directory of 64 records: the first of them are the templates in their order, each with its page,
 -- and the next ones, up to the capacity, name the free pages.
-use Rattle.std.specs.Prelude.{◌≡◌, ℕ, ◌*◌, ◌/◌, ◌^◌, ◌<◌, ◌≤◌, min, List, [], ◌∷◌, ◌++◌, map, length, take, drop, Result, MatchResult, ◌≢◌, slice_index_or}
+use Rattle.std.specs.Prelude.{◌≡◌, ℕ, ◌*◌, ◌/◌, ◌^◌, ◌<◌, ◌≤◌, min, List, [], ◌∷◌, ◌++◌, map, length, take, drop}
+use Rattle.std.specs.Prelude.{Result, MatchResult, ◌≢◌, slice_index_or}
 use Rattle.std.specs.List.{ContainsAt as Has}
 use Rattle.memory.specs.Held.{Held}
 use Rattle.memory.specs.declared.NotAdded.{NotAdded}

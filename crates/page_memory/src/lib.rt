@@ -71,7 +71,7 @@ impl Memory for PageMemory {
         Some(Self::T)
     }
 
-    /// The template goes to the first free page, and no other template moves.
+    /// The template goes to a free page, and no other template moves.
     fn add(&mut self, id: u16, template: &[u8]) -> Result<(), NotAdded>
         ensures value { result ≡ add_answer 256
             (room_of self.old) (held_by self.old) id template.now }
@@ -94,7 +94,7 @@ impl Memory for PageMemory {
         Ok(())
     }
 
-    /// The record goes behind those that stay, so that its page is the first free one.
+    /// The record goes behind those that stay, so that its page is free, and no other template moves.
     fn remove(&mut self, place: usize) -> bool
         ensures value { result ≡ nat_lt place (length (held_by self.old)) }
         ensures after { held_by self.new ≡ remove_after (held_by self.old) place }

@@ -83,6 +83,7 @@ fn tick<M: Matcher, S: Memory>(device: &mut Device<M, S>) -> Answers
 }
 
 /// What is awaited and what comes decide together.
+#[inline(always)]
 fn match_awaited<M: Matcher, S: Memory>(
     device: &mut Device<M, S>,
     event: Event<Request<'_>, GoodScan<'_, S>>,
@@ -127,6 +128,7 @@ fn match_awaited<M: Matcher, S: Memory>(
 /// every module that calls have led to. Templates are compared in `work`, which is the caller's to clear; where it is
 /// shorter than the longest template, all is refused, and a request that would start is where it lacks the data that
 /// its Size says. A refusal changes nothing, `work` neither.
+#[inline(always)]
 pub fn decide<M: Matcher, S: Memory>(
     device: &mut Device<M, S>,
     event: Event<Request<'_>, Scan<'_>>,

@@ -1,7 +1,7 @@
 -- What a call says names a command that was read, and has the data that belongs to it; so its bytes read back.
 use Rattle.std.proofs.Common.{◌≡◌, ℕ, ◌+◌, ◌-◌, ◌*◌, ◌<◌, max, Bool, true, false, cond, not, ◌&&◌, ◌||◌, eqb, ltb, leb, List, [], ◌∷◌, length, is_some, Some, None, Ok, Err, Option, Result, sym, refl, ap, ◌∙◌, subst, arith}
 use Rattle.codes.proofs.Back.{byte-back}
-use Rattle.codes.specs.Known.{known-command}
+use Rattle.codes.proofs.Known.{known-command}
 use Rattle.codes.specs.Codes.{code_number}
 use Rattle.codes.specs.Coded.{coded}
 use Rattle.codes.specs.Commands.{command_number, commands}

@@ -1,19 +1,24 @@
 -- The rows in a chip's bytes, and what a write does to them.
-use Rattle.std.specs.Prelude.{◌≡◌, ℕ, suc, ◌+◌, ◌-◌, ◌*◌, ◌/◌, ◌^◌, ◌<◌, ◌≤◌, min, List, [], ◌∷◌, ◌++◌, length, take, drop, Vec, slice_index_or}
+use Rattle.std.specs.Prelude.{◌≡◌, ℕ, suc, ◌+◌, ◌-◌, ◌*◌, ◌/◌, ◌^◌, ◌<◌, ◌≤◌, min, List, [], ◌∷◌, ◌++◌, length}
+use Rattle.std.specs.Prelude.{take, drop, Vec, slice_index_or}
 use Rattle.std.proofs.Common.{sym, ap, ◌∙◌, ⊎_elim, arith}
 use Rattle.std.proofs.Math.Numerals.{towards_numerals}
 use Rattle.std.specs.Vec.{with_items}
 use Rattle.std.specs.List.{remove, AllByRecursion}
 use Rattle.std.proofs.lemmas.List.FromFn.{length-map-range_with_len, get_or-map-range_with_len, map-range_with_len_more}
-use Rattle.std.proofs.lemmas.List.Edits.{length-paste, paste_all, length-remove, get_or-remove_below, get_or-remove_above}
+use Rattle.std.proofs.lemmas.List.Edits.{length-paste, paste_all, length-remove, get_or-remove_below}
+use Rattle.std.proofs.lemmas.List.Edits.{get_or-remove_above}
 use Rattle.std.proofs.ByRecursion.{All-append, All-drop, All-from_get_or, All-get_or, All-push, All-take}
-use Rattle.std.proofs.lemmas.List.{same_lists, places, with_items_is, append_assoc, length-take, length-take-le, length-drop}
-use Rattle.std.proofs.lemmas.List.{take_all, take_at, drop_at, take-append-drop, drop-take, drop-drop, get_or-take, get_or-drop}
+use Rattle.std.proofs.lemmas.List.{same_lists, places, with_items_is, append_assoc, length-take, length-take-le}
+use Rattle.std.proofs.lemmas.List.{length-drop}
+use Rattle.std.proofs.lemmas.List.{take_all, take_at, drop_at, take-append-drop, drop-take, drop-drop, get_or-take}
+use Rattle.std.proofs.lemmas.List.{get_or-drop}
 use Rattle.std.proofs.Math.Nat.{add_comm, zero-add}
 use Rattle.std.proofs.lemmas.Bool.{cases_lt}
 use borrow.Rule.Slice.PartMut.{put_mid}
 use Rattle.memory.specs.Held.{Held, Sound, none}
-use Rattle.row_memory.specs.Rows.{capacity_of, row_at, held_in, rows_in, AllSound, row_of, written, closed, closed_first}
+use Rattle.row_memory.specs.Rows.{capacity_of, row_at, held_in, rows_in, AllSound, row_of, written, closed}
+use Rattle.row_memory.specs.Rows.{closed_first}
 
 pub rows_length : (bs : List ℕ) (n : ℕ) → length (rows_in bs n) ≡ n
 rows_length bs n = length-map-range_with_len (λ k. held_in (row_at bs k)) 0 n

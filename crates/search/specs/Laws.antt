@@ -22,3 +22,14 @@ pub record IsLowestFree (h : List Held) (id : ℕ) : Type 0 where
   pub some_id : 1 ≤ id
   pub free : count_of id h ≡ 0
   pub lower : (k : ℕ) → 1 ≤ k → k < id → count_of k h ≢ 0
+
+-- the ID's template of this number stands at this place: exactly so many older ones have the ID
+pub record IsNumbered (h : List Held) (id number place : ℕ) : Type 0 where
+  pub inside : place < length h
+  pub id_there : (held_at h place).id ≡ id
+  pub older : count_of id (take place h) ≡ number
+
+-- the template of this number, counted from 0, is found, or the ID has no more than `number` templates
+abbrev pub FindsNumbered : List Held → ℕ → ℕ → Option ℕ → Type 0
+FindsNumbered h id number None = count_of id h ≤ number
+FindsNumbered h id number (Some place) = IsNumbered h id number place

@@ -7,10 +7,6 @@ use Rattle.search.specs.Ids.{count_of}
 abbrev pub passes : (ℕ → Bool) → (List ℕ → Bool) → Held → Bool
 passes allowed agrees e = allowed e.id && agrees e.template
 
--- the ID of a template that passes
-abbrev pub id_if : (Held → Bool) → Held → Option ℕ
-id_if ok e = cond (ok e) (Some e.id) None
-
 -- the oldest template that passes: its ID, and its number, which is how many older ones have that ID
 abbrev pub oldest_from : (Held → Bool) → List Held → List Held → Option (ℕ × ℕ)
 oldest_from ok older [] = None

@@ -1,6 +1,6 @@
 ghost use Rattle.std.specs.Prelude.{◌≡◌, ℕ, ◌^◌, ◌<◌, false, not, length, count_by, ◌==◌, nat_eq, slice_index_or};
 ghost use Rattle.search.specs.Ids.{count_of, is_at, lowest_free, place_of};
-ghost use Rattle.search.specs.Laws.{IsLowestFree};
+ghost use Rattle.search.specs.Laws.{FindsNumbered, IsLowestFree};
 
 use memory::Memory;
 
@@ -63,7 +63,8 @@ pub fn lowest_free_id<S: Memory>(memory: &S) -> u16
 
 /// The place of the ID's template of this number, counted from 0.
 pub fn place_of<S: Memory>(memory: &S, id: u16, number: u32) -> Option<usize>
-    ensures { result ≡ place_of id number (S.Memory.held memory.now) }
+    ensures value { result ≡ place_of id number (S.Memory.held memory.now) }
+    ensures finds { FindsNumbered (S.Memory.held memory.now) id number result }
 {
     (0..memory.count())
         .filter(|place| is_at(memory, *place, id))

@@ -12,8 +12,12 @@ const REFUSED: u32 = 256;
 pub(crate) struct Checksum(pub u32);
 
 impl Checksum {
+    fn with(self, value: u32) -> Checksum {
+        Checksum(self.0.wrapping_mul(31).wrapping_add(value))
+    }
+
     fn fold(&mut self, value: u32) {
-        self.0 = self.0.wrapping_mul(31).wrapping_add(value);
+        *self = self.with(value);
     }
 
     fn outcomes(&mut self, outcomes: Outcomes) {
@@ -31,12 +35,12 @@ impl Checksum {
         let written = answer.written(out);
         self.outcomes(answer.outcomes);
         self.fold(u32::try_from(written.len()).unwrap_or(u32::MAX));
-        for byte in &written[written.len().saturating_sub(LAST)..] {
-            self.fold(u32::from(*byte));
-        }
+        let last = &written[written.len().saturating_sub(LAST)..];
+        *self = last.iter().fold(*self, |sum, byte| sum.with(u32::from(*byte)));
     }
 
     /// Takes in what a call gave.
+    #[inline(always)]
     pub fn take(&mut self, given: Result<Answer, Refusal>, out: &[u8]) {
         match given {
             Ok(answer) => self.answer(answer, out),

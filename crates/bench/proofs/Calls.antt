@@ -1,12 +1,12 @@
 -- What is printed of a call is the machine's answer.
-use Rattle.std.proofs.Common.{◌≡◌, ℕ, ◌≤◌, List, [], ◌∷◌, ◌++◌, length, take, drop, map, Bool, false, nat_lt, Some, Ok, Err, Option, Result, refl, sym, ap, ◌∙◌, arith, ltb-false}
+use Rattle.std.proofs.Common.{◌≡◌, ℕ, List, [], ◌∷◌, ◌++◌, length, take, drop, map, Some, Ok, Err, Option, Result, refl, sym, ap, ◌∙◌, arith}
 use Rattle.std.proofs.Math.Seq.{take-append_seam}
 use Rattle.std.proofs.lemmas.Result.{on_ok_weaker}
 use Rattle.std.specs.Result.{OnOk}
 use Rattle.std.specs.Option.{option_map}
 use Rattle.codes.specs.declared.refusal.Refusal.{Refusal}
 use Rattle.machine.specs.Answers.{Step, bytes_of}
-use Rattle.machine.specs.Machine.{Call, Event, next_of, on_event, step_of, written_by}
+use Rattle.machine.specs.Machine.{Call, on_event, step_of, written_by}
 use Rattle.machine.specs.Printed.{answer_text, line_of, refusal_text}
 use Rattle.machine.specs.State.{State}
 use Rattle.promises.specs.Runs.{answered}

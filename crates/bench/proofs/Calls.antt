@@ -42,6 +42,6 @@ pub call-shown : {X Y : Type 0} (r : Result X Y) (v w : State) (line : List ℕ)
 call-shown r v w line asked l a before text out out-before work work-before e is o k served empty said =
     let c = call (event_of (seen_line l)) out-before work-before in
     let shown : given_text a out ≡ line_of v (on_event v c.event) =
-        line-shown v _ a c.out out served.shows.answer served.shows.count served.shows.bytes ∙ ap (λ r. line_of v r) (heard v c o k) in
+    line-shown v _ a c.out out served.shows.answer served.shows.count served.shows.bytes ∙ ap (λ r. line_of v r) (heard v c o k) in
     let all : line_of v (on_event v c.event) ++ 10 ∷ [] ≡ line_text v line = ap (λ x. asked_text v x) (ap (λ x. option_map seen_line x) (sym is) ∙ e) in
     on_ok_weaker r (λ h. h ∙ ap (λ t. t ++ given_text a out ++ 10 ∷ []) empty ∙ ap (λ t. t ++ 10 ∷ []) shown ∙ all) said

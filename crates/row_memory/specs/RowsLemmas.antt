@@ -117,7 +117,7 @@ first-closed xs m =
     let front : take m (drop 386 (take (386 + m) xs)) ≡ take m (drop 386 xs) = ap (take m) (drop-take 386 m xs) ∙ take_all m _ (omega (arith, length-take m (drop 386 xs))) in
     let turn : drop m (take (386 + m) xs) ≡ take 386 (drop m xs) = ap (λ k. drop m (take k xs)) (add_comm 386 m) ∙ drop-take m 386 xs in
     let rest : take 386 (drop m xs) ++ drop (386 + m) xs ≡ drop m xs =
-        ap (λ l. take 386 (drop m xs) ++ l) (ap (λ k. drop k xs) (add_comm 386 m) ∙ sym (drop-drop 386 m xs)) ∙ take-append-drop 386 (drop m xs) in
+    ap (λ l. take 386 (drop m xs) ++ l) (ap (λ k. drop k xs) (add_comm 386 m) ∙ sym (drop-drop 386 m xs)) ∙ take-append-drop 386 (drop m xs) in
     rw (front, turn)
     (append_assoc (take m (drop 386 xs)) (take 386 (drop m xs)) (drop (386 + m) xs) ∙ ap (λ l. take m (drop 386 xs) ++ l) rest)
 

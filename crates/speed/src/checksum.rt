@@ -36,7 +36,9 @@ impl Checksum {
         self.outcomes(answer.outcomes);
         self.fold(u32::try_from(written.len()).unwrap_or(u32::MAX));
         let last = &written[written.len().saturating_sub(LAST)..];
-        *self = last.iter().fold(*self, |sum, byte| sum.with(u32::from(*byte)));
+        *self = last
+            .iter()
+            .fold(*self, |sum, byte| sum.with(u32::from(*byte)));
     }
 
     /// Takes in what a call gave.

@@ -13,13 +13,19 @@ fn frame_of(heap: Global, request: Request<'_>) -> anyhow::Result<Vec<u8>> {
     let mut frame = [0; LONGEST];
     let length = write_request(&mut frame, request);
     let sent = length.and_then(|length| frame.get(..length));
-    Ok(sent
-        .context("the request is longer than the line takes")?
-        .to_vec(heap)?)
+    Ok(
+        sent.context("the request is longer than the line takes")?
+            .to_vec(heap)?,
+    )
 }
 
 /// A request that carries no data, with a Param and a flag.
-pub(crate) fn plain(heap: Global, command: Command, param: u16, flag: u8) -> anyhow::Result<Vec<u8>> {
+pub(crate) fn plain(
+    heap: Global,
+    command: Command,
+    param: u16,
+    flag: u8,
+) -> anyhow::Result<Vec<u8>> {
     let request = Request {
         form: Form::Standard,
         command: Coded::Known(command),

@@ -1,7 +1,6 @@
 use anyhow::{Context, anyhow};
-use std::env;
-use std::fmt;
 use std::str::FromStr;
+use std::{env, fmt};
 
 const USAGE: &str = "usage: speed WORKLOAD COUNT";
 

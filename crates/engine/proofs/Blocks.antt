@@ -1,12 +1,14 @@
 -- The IDs that LT answers, written one behind the other.
-use Rattle.std.proofs.Common.{◌≡◌, ℕ, ◌+◌, ◌*◌, ◌<◌, List, [], ◌++◌, map, length, get_or, take, drop, sym, ap, ◌∙◌, arith}
+use Rattle.std.proofs.Common.{◌≡◌, ℕ, ◌+◌, ◌-◌, ◌*◌, ◌<◌, min, List, [], ◌∷◌, ◌++◌, map, length, get_or, set, take, drop, refl, sym, ap, ◌∙◌, arith}
 use Rattle.memory.specs.Held.{Held, held_at, none}
+use Rattle.requests.proofs.Blocks.{block-length}
 use Rattle.packet.specs.Numbers.{bytes32}
 use Rattle.promises.proofs.Sent.{length_ids}
-use Rattle.requests.proofs.Blocks.{block-length}
 use Rattle.device.specs.View.{block_of}
 use Rattle.std.specs.List.{flat_map}
-use Rattle.std.proofs.lemmas.List.{append_assoc, drop_at, drop-drop, get_or-drop, get_or-map, get_or-take, flat_map_more, length-take-le, take_all, take_at, take_more}
+use Rattle.std.proofs.lemmas.List.{append_assoc, drop_at, drop-drop, flat_map_more, get_or-drop, get_or-map, get_or-take}
+use Rattle.std.proofs.lemmas.List.{length-drop, length-map, length-take-le, take_at, take_min, take_more}
+use Rattle.std.proofs.lemmas.Grind.{take-set_at}
 
 pub block_at : (from most k : ℕ) (h : List Held) → k < length (block_of from most h)
     → (from + k < length h) × (get_or (block_of from most h) k 0 ≡ (held_at h (from + k)).id)
@@ -36,8 +38,17 @@ one_more xs out before k x inside is e =
     ap (λ l. l ++ (bytes32 x ++ drop (4 * k + 4) out)) front ∙ ap (λ l. j ++ (bytes32 x ++ l)) behind
     ∙ sym (append_assoc j (bytes32 x) (drop (4 * (k + 1)) before)) ∙ ap (λ l. l ++ drop (4 * (k + 1)) before) (sym more)
 
--- all of them
-pub all-written : (xs out before : List ℕ) (n : ℕ) → n ≡ length xs → out ≡ flat_map bytes32 (take n xs) ++ drop (4 * n) before
-    → (4 * n ≡ length (flat_map bytes32 xs)) × (out ≡ flat_map bytes32 xs ++ drop (4 * n) before)
-all-written xs out before n e w =
-    (ap (λ k. 4 * k) e ∙ sym (length_ids xs), w ∙ ap (λ l. flat_map bytes32 l ++ drop (4 * n) before) (take_all n xs (omega arith)))
+-- the block of as many IDs as there are is the block
+pub same_block : (from most n : ℕ) (h : List Held) → n ≡ min (length h) (from + most) - from → block_of from n h ≡ block_of from most h
+same_block from most n h e =
+    let ids = drop from (map (λ y. y.id) h) in
+    let long : length ids ≡ length h - from = simp (length-drop, length-map) refl in
+    let few : n ≡ min most (length ids) = omega arith in
+    ap (λ k. take k ids) few ∙ take_min most ids
+
+-- one ID more is read
+pub read_more : (xs ids : List ℕ) (k j x : ℕ) → j ≡ k + 1 → k < length ids → k < length xs → x ≡ get_or xs k 0 → take k ids ≡ take k xs
+    → take j (set ids k x) ≡ take j xs
+read_more xs ids k j x next inside there is same =
+    take-set_at ids k j x next inside ∙ ap (λ l. l ++ x ∷ []) same ∙ ap (λ y. take k xs ++ y ∷ []) is
+    ∙ sym (take_more xs k 0 there) ∙ ap (λ n. take n xs) (sym next)

@@ -32,7 +32,7 @@ fn answer<M: Matcher, S: Memory>(
     work: &mut [u8],
 ) -> Result<Answers, Refusal>
     requires { 384 ≤ length work.old }
-    ensures value { Ready (view M.Matcher S.Memory device.old) → has_data (request_parts request.entry) ≡ true
+    ensures value { has_data (request_parts request.entry) ≡ true
         → tried (view M.Matcher S.Memory device.new) result
         ≡ Ok (requested (view M.Matcher S.Memory device.old) (request_parts request.entry)) }
     ensures refused { OnErr result (view M.Matcher S.Memory device.new ≡ view M.Matcher S.Memory device.old) }

@@ -1,5 +1,6 @@
-ghost use Rattle.std.specs.Prelude.{◌≡◌, ◌+◌, ◌*◌, ◌≤◌, [], ◌∷◌, ◌++◌, length, take, drop};
-ghost use Rattle.device.specs.View.{data_in, plain, said_in};
+ghost use Rattle.std.specs.Prelude.{◌≡◌, ◌+◌, ◌-◌, ◌*◌, ◌≤◌, [], ◌∷◌, ◌++◌, length, take, drop};
+ghost use Rattle.std.specs.List.{flat_map};
+ghost use Rattle.device.specs.View.{block_of, data_in, plain, said_in};
 ghost use Rattle.device.specs.declared.answers.Data.TheVariants.{Ids, Template};
 ghost use Rattle.engine.specs.Wrote.{Wrote, said};
 ghost use Rattle.packet.specs.Numbers.{bytes32};
@@ -7,6 +8,9 @@ ghost use Rattle.packet.specs.Numbers.{bytes32};
 use device::{Answers, Data, Told};
 use memory::Memory;
 use packet::{Reply, data_place, write_replies, write_reply, write_reply_around};
+
+/// The most templates that a memory holds.
+const MOST_HELD: usize = 500;
 
 /// A reply without data.
 fn reply(told: Told) -> Reply<'static>
@@ -29,19 +33,47 @@ fn put_id(out: &mut [u8], at: usize, id: u16)
     out[at..at + 4].copy_from_slice(&u32::from(id).to_le_bytes());
 }
 
-/// Writes the IDs of at most `most` templates from a place on, and says how many bytes they take.
+/// Reads the IDs of the templates from a place up to another. In line, and with a loop that would end where there is
+/// none, LLVM takes several places at a time.
+#[inline(always)]
+fn read_ids<S: Memory>(memory: &S, from: usize, end: usize, ids: &mut [u16; MOST_HELD])
+    requires in_memory { end ≤ length (S.Memory.held memory.now) }
+    requires in_bounds { length (S.Memory.held memory.now) ≤ 500 }
+    ensures { take (end - from) ids.new ≡ block_of from (end - from) (S.Memory.held memory.now) }
+{
+    for place in from..end {
+        // There is a template at each of these places.
+        let Some(id) = memory.id_at(place) else {
+            break;
+        };
+        ids[place - from] = id;
+    }
+}
+
+/// Writes the first so many IDs, one behind the other, at the front of `out`.
+fn put_ids(out: &mut [u8], number: usize, ids: &[u16; MOST_HELD])
+    requires in_out { 4 * number ≤ length out.old }
+    requires in_bounds { number ≤ 500 }
+    ensures { out.new ≡ flat_map bytes32 (take number ids.now) ++ drop (4 * number) out.old }
+{
+    for k in 0..number {
+        put_id(out, 4 * k, ids[k]);
+    }
+}
+
+/// Writes the IDs of at most `most` templates from a place on, and says how many bytes they take. All are read before
+/// any is written: as far as LLVM knows, what is written may lie where the memory keeps its fields.
 fn write_ids<S: Memory>(memory: &S, from: usize, most: usize, out: &mut [u8]) -> usize
     requires { length (data_in (S.Memory.held memory.now) (Ids from most)) ≤ length out.old }
     ensures count { result ≡ length (data_in (S.Memory.held memory.now) (Ids from most)) }
     ensures bytes { out.new ≡ data_in (S.Memory.held memory.now) (Ids from most)
         ++ drop result out.old }
 {
-    let number = memory.count().saturating_sub(from).min(most);
-    for k in 0..number {
-        // There is a template at each of these places.
-        let id = memory.id_at(from + k).unwrap_or(0);
-        put_id(out, 4 * k, id);
-    }
+    let end = memory.count().min(from.saturating_add(most));
+    let number = end.saturating_sub(from);
+    let mut ids = [0; MOST_HELD];
+    read_ids(memory, from, end, &mut ids);
+    put_ids(out, number, &ids);
     4 * number
 }
 

@@ -101,7 +101,7 @@ fn ended_with(answer: Answer, out: &[u8], code: Code) -> Result<Given<'_>, Fail>
 
 impl Bench {
     /// A fresh module with a number, over a chip of so many pages.
-    pub fn new(heap: Global, pages: u8, own: u16) -> Result<Bench, AllocError> {
+    pub(crate) fn new(heap: Global, pages: u8, own: u16) -> Result<Bench, AllocError> {
         let chip = vec![in heap; 0u8; usize::from(pages) * SCAN]?;
         Ok(Bench {
             module: Module::new(PointMatcher, PageMemory::new(chip), own),
@@ -120,13 +120,13 @@ impl Bench {
     }
 
     /// Sends a request that is carried out at once, with this code.
-    pub fn ask(&mut self, request: Request<'_>, code: Code) -> Result<Given<'_>, Fail> {
+    pub(crate) fn ask(&mut self, request: Request<'_>, code: Code) -> Result<Given<'_>, Fail> {
         let answer = self.send(request)?;
         ended_with(answer, &self.out, code)
     }
 
     /// Sends a request that waits for a finger.
-    pub fn start(&mut self, request: Request<'_>) -> Result<(), Fail> {
+    pub(crate) fn start(&mut self, request: Request<'_>) -> Result<(), Fail> {
         match last_of(self.send(request)?.outcomes) {
             Some(_) => Err(Fail::new("an outcome")),
             None => Ok(()),
@@ -134,7 +134,7 @@ impl Bench {
     }
 
     /// Lays a finger, whose last outcome has this code.
-    pub fn finger(
+    pub(crate) fn finger(
         &mut self,
         scan: &[u8; SCAN],
         quality: u8,

@@ -13,7 +13,7 @@ use Rattle.engine.proofs.hearing.answer.Goals as goal
 use Rattle.engine.proofs.hearing.answer.Goals.{else-device-via-then-device+else-not-is_unlock, else-device-via-else-device}
 
 pub returns-clause-value : goal.returns-clause-value
-returns-clause-value g c = λ ready whole.
+returns-clause-value g c = λ whole.
     let s = view g.M.Matcher g.S.Memory c.args.device.now in
     let q = request_parts c.args.request in
     let hears : (s.locked && not (known_among command_number (Unlock ∷ []) q.command)) ≡ false =

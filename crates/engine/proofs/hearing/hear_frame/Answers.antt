@@ -11,5 +11,5 @@ returns g c = λ ready.
     let q = request_parts c.in_ok-request.request in
     let read = sym c.in_ok-request.ensures.value in
     framed v _ c.args.frame.now q c.answer.result read
-    (c.answer.ensures.value ready (reads-data v.settings.network v.own c.args.frame.now q read)) c.answer.ensures.refused
+    (c.answer.ensures.value (reads-data v.settings.network v.own c.args.frame.now q read)) c.answer.ensures.refused
     c.in_ok-request.ensures.back

@@ -1,9 +1,9 @@
 -- What a module keeps, as the machine's state; and what a call answers, as the machine says it.
-use Rattle.std.specs.Prelude.{ℕ, List, [], ◌∷◌, map, take, drop, Some, None, Ok, Err, Option, Result}
+use Rattle.std.specs.Prelude.{ℕ, List, [], ◌∷◌, take, Some, None, Ok, Err, Option, Result}
 use Rattle.administrators.specs.Table.{rows_of}
 use Rattle.codes.specs.declared.refusal.Refusal.{Refusal}
 use Rattle.matcher.specs.declared.matching.Matcher.{Ghosts as Matching}
-use Rattle.memory.specs.Held.{Held, held_at}
+use Rattle.memory.specs.Held.{Held, block_of, held_at}
 use Rattle.memory.specs.declared.Memory.{Ghosts as Remembering}
 use Rattle.packet.specs.Numbers.{bytes32}
 use Rattle.packet.specs.declared.form.Form.{Form}
@@ -67,10 +67,6 @@ view f g d = record {
   admins = rows_of d.admins;
   waiting = waiting_of d.form d.left (phase_of g.T d.first d.awaited);
 }
-
--- the IDs of at most `most` templates from a place on
-abbrev pub block_of : ℕ → ℕ → List Held → List ℕ
-block_of from most h = take most (drop from (map (λ e. e.id) h))
 
 -- the data of an outcome
 abbrev pub data_in : List Held → Data → List ℕ

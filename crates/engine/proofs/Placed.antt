@@ -1,15 +1,15 @@
 -- Outcomes that are written, with room for all of them.
 use Rattle.std.proofs.Common.{◌≡◌, ℕ, ◌+◌, ◌-◌, ◌^◌, ◌<◌, ◌≤◌, Bool, true, false, cond, eqb, List, [], ◌++◌, length, take, drop, Some, None, Option, unwrap_or, sym, refl, ap, ◌∙◌, subst, ⊎_elim, arith}
 use borrow.Rule.Slice.PartMut.{put_mid}
-use Rattle.device.specs.View.{block_of, data_in}
+use Rattle.device.specs.View.{data_in}
 use Rattle.device.specs.declared.answers.Data.{Data}
 use Rattle.device.specs.declared.answers.Data.TheVariants.{Ids, Template}
 use Rattle.device.specs.declared.answers.Told.{Told}
 use Rattle.packet.specs.declared.response.Reply.{Reply}
 use Rattle.engine.specs.Wrote.{Wrote}
-use Rattle.requests.proofs.Blocks.{block-length}
+use Rattle.memory.proofs.Blocks.{block-length}
 use Rattle.machine.specs.Answers.{Said, bytes_of}
-use Rattle.memory.specs.Held.{Held, Sound, held_at, none}
+use Rattle.memory.specs.Held.{Held, Sound, block_of, held_at, none}
 use Rattle.packet.specs.Around.{data_place, place_in, standing}
 use Rattle.packet.specs.Heads.{head_length}
 use Rattle.packet.specs.Packets.{packet_bytes, written, written_count}

@@ -37,7 +37,6 @@ fn outcomes_of(answers: Answers) -> Outcomes
 
 impl<M: Matcher, S: Memory> Module<M, S> {
     /// A call whose buffers are long enough: whatever comes of it, the work buffer is cleared.
-    #[inline(always)]
     fn serve_within(
         &mut self,
         event: Event<&[u8], Scan<'_>>,

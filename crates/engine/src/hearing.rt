@@ -59,7 +59,6 @@ fn hear_frame<M: Matcher, S: Memory>(
 }
 
 /// What a call is given.
-#[inline(always)]
 pub(crate) fn hear<M: Matcher, S: Memory>(
     device: &mut Device<M, S>,
     event: Event<&[u8], Scan<'_>>,

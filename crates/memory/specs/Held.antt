@@ -1,7 +1,8 @@
 -- What a template memory means: a list of held templates, oldest first.
-use Rattle.std.specs.Prelude.{◌≡◌, ℕ, ◌^◌, ◌<◌, Bool, cond, not, ◌&&◌, ◌||◌, List, [], ◌∷◌, ◌++◌, length, drop}
+use Rattle.std.specs.Prelude.{◌≡◌, ℕ, ◌*◌, ◌/◌, ◌^◌, ◌<◌, Bool, cond, not, ◌&&◌, ◌||◌, List, [], ◌∷◌, ◌++◌, map, length, take, drop}
 use Rattle.std.specs.Prelude.{is_ok, Some, None, Ok, Err, Option, Result, ◌==◌, nat_le, nat_lt, slice_index_or}
-use Rattle.std.specs.List.{remove}
+use Rattle.std.specs.Int.{to_le_bytes, w32}
+use Rattle.std.specs.List.{flat_map, remove}
 use Rattle.memory.specs.declared.NotAdded.{NotAdded}
 use Rattle.memory.specs.declared.NotAdded.TheVariants.{Malformed, Full}
 
@@ -24,6 +25,18 @@ held_at h place = slice_index_or h place none
 -- the ID at a place
 abbrev pub id_at : List Held → ℕ → Option ℕ
 id_at h place = cond (nat_lt place (length h)) (Some (held_at h place).id) None
+
+-- the IDs of at most `most` templates from a place on
+abbrev pub block_of : ℕ → ℕ → List Held → List ℕ
+block_of from most h = take most (drop from (map (λ e. e.id) h))
+
+-- of the IDs from a place on, those that a buffer has room for at four bytes each
+abbrev pub ids_for : List Held → ℕ → List ℕ → List ℕ
+ids_for h from into = block_of from (length into / 4) h
+
+-- these IDs stand at the front of the buffer, low byte first, and the rest of it stays
+abbrev pub ids_after : List Held → ℕ → List ℕ → List ℕ
+ids_after h from into = flat_map (to_le_bytes w32) (ids_for h from into) ++ drop (4 * length (ids_for h from into)) into
 
 -- there is a template at the place, and the buffer has room for it
 abbrev pub copies : ℕ → List Held → ℕ → List ℕ → Bool

@@ -2,8 +2,12 @@
 #![tactic(auto)]
 
 ghost use Rattle.std.specs.Prelude.{◌≡◌, ℕ, ◌≤◌, List, [], length, nat_lt};
-ghost use Rattle.memory.specs.Held.{Held, Sound, add_after, add_answer, copy_after, copy_answer, id_at, remove_after};
+ghost use Rattle.memory.specs.Held.{Held, Sound, add_after, add_answer, copy_after, copy_answer, id_at, ids_after};
+ghost use Rattle.memory.specs.Held.{ids_for, remove_after};
 ghost use Rattle.std.specs.List.{AllByRecursion};
+
+/// The bytes of an ID in a list of IDs.
+pub const LISTED_ID: usize = 4;
 
 /// Why a template is not added.
 #[derive(Clone, Copy, PartialEq, Eq, Debug)]
@@ -45,6 +49,28 @@ pub trait Memory {
     fn copy_at(&self, place: usize, into: &mut [u8]) -> Option<usize>
         ensures value { result ≡ copy_answer T (held self.now) place into.old }
         ensures after { into.new ≡ copy_after T (held self.now) place into.old };
+
+    /// Writes the IDs from a place on to the front of `into`, oldest first and each in four bytes, low byte first: as
+    /// many as there are, and as it has room for. Says how many. Here `id_at` is asked for each; a memory that can
+    /// reach its IDs faster writes them itself.
+    fn ids_into(&self, from: usize, into: &mut [u8]) -> usize
+        ensures value { result ≡ length (ids_for (held self.now) from into.old) }
+        ensures after { into.new ≡ ids_after (held self.now) from into.old }
+    {
+        let number = self
+            .count()
+            .saturating_sub(from)
+            .min(into.len() / LISTED_ID);
+        for k in 0..number {
+            // There is a template at each of these places.
+            let Some(id) = self.id_at(from + k) else {
+                break;
+            };
+            let at = LISTED_ID * k;
+            into[at..at + LISTED_ID].copy_from_slice(&u32::from(id).to_le_bytes());
+        }
+        number
+    }
 
     /// Adds a template as the youngest.
     fn add(&mut self, id: u16, template: &[u8]) -> Result<(), NotAdded>

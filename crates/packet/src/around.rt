@@ -24,6 +24,7 @@ pub fn data_place(to: Form, outcome: Outcome) -> Option<usize>
 
 /// Writes a packet at the front of `out`, and 0x0A behind its data, `length` bytes that stand behind it
 /// already. Says how many bytes that are; where they have no room, nothing is written.
+#[inline(always)]
 fn write_around(out: &mut [u8], head: Head, length: usize) -> Option<usize>
     ensures count { result ≡ written_count
         (packet_bytes head true (standing head.form length out.old)) out.old }
@@ -42,6 +43,7 @@ fn write_around(out: &mut [u8], head: Head, length: usize) -> Option<usize>
 /// Writes a reply at the front of `out` around its data, `length` bytes that stand there already, from
 /// `data_place` on, and says how many bytes it takes: none for a broadcast. An outcome that carries no
 /// data is the packet alone. Where the whole has no room, nothing is written.
+#[inline(always)]
 pub fn write_reply_around(
     out: &mut [u8],
     own: u16,

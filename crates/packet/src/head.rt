@@ -24,6 +24,7 @@ fn no_flaw(start: bool, end: bool, sum: bool) -> Result<(), Refusal>
 }
 
 /// Takes a standard packet apart, and what stands behind it.
+#[inline(always)]
 pub(crate) fn standard_head(frame: &[u8]) -> Result<(Head, &[u8]), Refusal>
     ensures value { seen_head result ≡ read_head Single frame.now }
     ensures back { IfOk result (λ x. head_bytes x.0 ++ x.1.now ≡ frame.now) }

@@ -1,4 +1,3 @@
-pub mod Blocks
 pub mod Ended
 pub mod Enrolled
 pub mod Numbered

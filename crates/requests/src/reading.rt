@@ -1,8 +1,9 @@
 ghost use Rattle.std.specs.Prelude.{◌≡◌};
 ghost use Rattle.codes.specs.declared.command.Command.TheVariants.{Identify};
-ghost use Rattle.device.specs.View.{block_of, view, went};
+ghost use Rattle.device.specs.View.{view, went};
 ghost use Rattle.machine.specs.Answers.{go};
 ghost use Rattle.machine.specs.Requests.{answer_ids, known, list, read_template, verify};
+ghost use Rattle.memory.specs.Held.{block_of};
 ghost use Rattle.packet.specs.Requests.{request_parts};
 ghost use Rattle.requests.specs.Ending.{KeptOnErr, Obeys};
 

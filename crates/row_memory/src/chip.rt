@@ -1,7 +1,10 @@
 //! The rows in a chip's bytes, one at a time.
 
 ghost use Rattle.std.specs.Prelude.{◌≡◌, ◌+◌, ◌*◌, ◌<◌, ◌≤◌, ◌++◌, length, drop};
-ghost use Rattle.row_memory.specs.Rows.{closed, closed_first, held_in, row_at, row_of, written};
+ghost use Rattle.memory.specs.Held.{ids_after, ids_for};
+ghost use Rattle.row_memory.specs.Rows.{closed, closed_first, held_in, row_at, row_of, rows_in, written};
+
+use memory::LISTED_ID;
 
 /// The bytes of a row: an ID, low byte first, and a template.
 pub(crate) const ROW: usize = 386;
@@ -16,6 +19,23 @@ pub(crate) fn read_id(bytes: &[u8], place: usize) -> u16
 {
     let start = place * ROW;
     u16::from_le_bytes([bytes[start], bytes[start + 1]])
+}
+
+/// Writes the IDs of the first `count` rows from a place on to the front of `into`, each in four bytes, low byte first:
+/// as many as there are, and as it has room for. Says how many. The rows and `into` are slices, so that LLVM takes
+/// several rows at a time where they do not overlap.
+pub(crate) fn write_ids(bytes: &[u8], count: usize, from: usize, into: &mut [u8]) -> usize
+    requires { count * 386 ≤ length bytes.now }
+    ensures value { result ≡ length (ids_for (rows_in bytes.now count) from into.old) }
+    ensures after { into.new ≡ ids_after (rows_in bytes.now count) from into.old }
+{
+    let number = count.saturating_sub(from).min(into.len() / LISTED_ID);
+    for k in 0..number {
+        let id = read_id(bytes, from + k);
+        let at = LISTED_ID * k;
+        into[at..at + LISTED_ID].copy_from_slice(&u32::from(id).to_le_bytes());
+    }
+    number
 }
 
 /// Copies the template of the row at a place to the front of `into`.

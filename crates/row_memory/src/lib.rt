@@ -68,6 +68,10 @@ impl Memory for RowMemory {
         Some(Self::T)
     }
 
+    fn ids_into(&self, from: usize, into: &mut [u8]) -> usize {
+        chip::write_ids(&self.bytes, self.count, from, into)
+    }
+
     fn add(&mut self, id: u16, template: &[u8]) -> Result<(), NotAdded> {
         if id == 0 || template.len() != Self::T {
             return Err(NotAdded::Malformed);

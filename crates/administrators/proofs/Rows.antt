@@ -1,5 +1,7 @@
 -- The row of an ID: what is read there, changed there and struck there is that ID's, as long as no ID has two rows.
-use Rattle.std.proofs.Common.{◌≡◌, ◌↔◌, ℕ, ◌-◌, ◌<◌, Bool, true, false, ◌||◌, eqb, List, [], ◌∷◌, ◌++◌, length, get_or, take, drop, set, is_some, Some, None, Option, Result, Ok, Err, is_ok, ltb, cond, sym, refl, ap, ◌∙◌, arith}
+use Rattle.std.proofs.Common.{◌≡◌, ◌↔◌, ℕ, ◌-◌, ◌<◌, Bool, true, false, ◌||◌, eqb, List, [], ◌∷◌, ◌++◌, length, get_or}
+use Rattle.std.proofs.Common.{take, drop, set, is_some, Some, None, Option, Result, Ok, Err, is_ok, ltb, cond, sym}
+use Rattle.std.proofs.Common.{refl, ap, ◌∙◌, arith}
 use Rattle.std.specs.List.{list_any, remove}
 use Rattle.std.specs.Result.{IsOk, OnErr, OnOk}
 use Rattle.std.proofs.lemmas.Bool.{le-ltb, lt-ltb}
@@ -42,7 +44,8 @@ module _ (id : ℕ) where
   struck-none [] e = refl
   struck-none (r ∷ rows) e = grind (arith, nat_tests, struck-none rows)
 
-  pub struck-found : (at : ℕ) (rows : List AdminRow) → Some at ≡ place_of (λ r. r.id) id rows → apart rows ≡ true → remove rows at ≡ struck id rows
+  pub struck-found : (at : ℕ) (rows : List AdminRow) → Some at ≡ place_of (λ r. r.id) id rows → apart rows ≡ true
+      → remove rows at ≡ struck id rows
   struck-found =
       by_place (λ r. r.id) id (λ at rows. apart rows ≡ true → remove rows at ≡ struck id rows)
       (λ r rows t a. let e = eqb-true r.id id t in grind (arith, nat_tests, struck-none rows))
@@ -84,7 +87,8 @@ any-listed f (r ∷ rows) = ap (λ b. f r.level || b) (any-listed f rows)
 
 -- what a strike and a pop behind it leave, as long as no ID has two rows
 module _ (id : ℕ) (rows : List AdminRow) (single : apart rows ≡ true) where
-  one_less : (o : Option ℕ) → o ≡ place_of (λ r. r.id) id rows → true ≡ is_some o → take (length rows - 1) (struck_at rows o) ≡ struck id rows
+  one_less : (o : Option ℕ) → o ≡ place_of (λ r. r.id) id rows → true ≡ is_some o
+      → take (length rows - 1) (struck_at rows o) ≡ struck id rows
   one_less (Some at) e t =
       let n = length-remove rows at (found_within id at rows e) in
       take_at (remove rows at) (take 1 (drop at rows)) (length rows - 1) (omega arith) ∙ struck-found id at rows e single

@@ -1,5 +1,6 @@
 -- What is printed of a call is the machine's answer.
-use Rattle.std.proofs.Common.{◌≡◌, ℕ, List, [], ◌∷◌, ◌++◌, length, take, drop, map, Some, Ok, Err, Option, Result, refl, sym, ap, ◌∙◌, arith}
+use Rattle.std.proofs.Common.{◌≡◌, ℕ, List, [], ◌∷◌, ◌++◌, length, take, drop, map, Some, Ok, Err, Option, Result, refl}
+use Rattle.std.proofs.Common.{sym, ap, ◌∙◌, arith}
 use Rattle.std.proofs.Math.Seq.{take-append_seam}
 use Rattle.std.proofs.lemmas.Result.{on_ok_weaker}
 use Rattle.std.specs.Result.{OnOk}
@@ -43,5 +44,6 @@ call-shown r v w line asked l a before text out out-before work work-before e is
     let c = call (event_of (seen_line l)) out-before work-before in
     let shown : given_text a out ≡ line_of v (on_event v c.event) =
     line-shown v _ a c.out out served.shows.answer served.shows.count served.shows.bytes ∙ ap (λ r. line_of v r) (heard v c o k) in
-    let all : line_of v (on_event v c.event) ++ 10 ∷ [] ≡ line_text v line = ap (λ x. asked_text v x) (ap (λ x. option_map seen_line x) (sym is) ∙ e) in
+    let all : line_of v (on_event v c.event) ++ 10 ∷ [] ≡ line_text v line =
+    ap (λ x. asked_text v x) (ap (λ x. option_map seen_line x) (sym is) ∙ e) in
     on_ok_weaker r (λ h. h ∙ ap (λ t. t ++ given_text a out ++ 10 ∷ []) empty ∙ ap (λ t. t ++ 10 ∷ []) shown ∙ all) said

@@ -1,5 +1,6 @@
 -- The steps of a loop that reads digits two by two, and what it read, spelled again.
-use Rattle.std.proofs.Common.{◌≡◌, ℕ, zero, suc, ◌+◌, ◌*◌, ◌/◌, ◌%◌, ◌<◌, ◌≤◌, List, [], ◌∷◌, ◌++◌, length, get_or, take, drop, Some, None, Ok, Err, Option, Result, sym, refl, ap, ◌∙◌, arith}
+use Rattle.std.proofs.Common.{◌≡◌, ℕ, zero, suc, ◌+◌, ◌*◌, ◌/◌, ◌%◌, ◌<◌, ◌≤◌, List, [], ◌∷◌, ◌++◌, length, get_or}
+use Rattle.std.proofs.Common.{take, drop, Some, None, Ok, Err, Option, Result, sym, refl, ap, ◌∙◌, arith}
 use Rattle.std.specs.List.{All}
 use Rattle.std.specs.Simd.{first_chunks}
 use Rattle.std.proofs.lemmas.List.{append_assoc, append-nil, drop-drop, drop_all, length-drop}
@@ -29,7 +30,8 @@ pair-at zero i xs lt le = absurd (omega arith)
 pair-at (suc k) zero xs lt le = pair-first xs (omega arith)
 pair-at (suc k) (suc i) xs lt le =
     let fewer : 2 * k ≤ length (drop 2 xs) = omega (arith, length-drop 2 xs) in
-    let more : drop (2 * (i + 1)) (drop 2 xs) ≡ drop (2 * (suc i + 1)) xs = drop-drop (2 * (i + 1)) 2 xs ∙ ap (λ n. drop n xs) (omega arith) in
+    let more : drop (2 * (i + 1)) (drop 2 xs) ≡ drop (2 * (suc i + 1)) xs = drop-drop (2 * (i + 1)) 2 xs
+    ∙ ap (λ n. drop n xs) (omega arith) in
     let here : drop (2 * i) (drop 2 xs) ≡ drop (2 * suc i) xs = drop-drop (2 * i) 2 xs ∙ ap (λ n. drop n xs) (omega arith) in
     let p = get_or (first_chunks 2 k (drop 2 xs)) i [] in
     ap (λ t. get_or p 0 0 ∷ get_or p 1 0 ∷ t) (sym more) ∙ pair-at k i (drop 2 xs) (omega arith) fewer ∙ here
@@ -103,7 +105,8 @@ spelled at (x ∷ y ∷ rest) bs e =
     pair-spelled at x y (digit_value x) (digit_value y) (bytes_from (at + 2) rest) bs rest refl refl e (λ cs h. spelled (at + 2) rest cs h)
 
 -- nothing is left
-pub read_all : (at : ℕ) (xs done : List ℕ) (r : Result (List ℕ) Fault) → length xs ≤ at → after done (bytes_from at (drop at xs)) ≡ r → r ≡ Ok done
+pub read_all : (at : ℕ) (xs done : List ℕ) (r : Result (List ℕ) Fault) → length xs ≤ at
+    → after done (bytes_from at (drop at xs)) ≡ r → r ≡ Ok done
 read_all at xs done r h e = sym e ∙ ap (λ l. after done (bytes_from at l)) (drop_all at xs h) ∙ ap Ok (append-nil done)
 
 digit-read : (n : ℕ) → n < 16 → digit_value (digit_of n) ≡ Some n

@@ -39,7 +39,7 @@ abbrev pub before : ℕ → Result (List ℕ) Fault → Result (List ℕ) Fault
 before b (Ok bs) = Ok (b ∷ bs)
 before b (Err e) = Err e
 
--- the bytes of the digits from a place on: the first character that is no digit is the fault, and then an odd number of digits
+-- the bytes of the digits from a place on; a fault is the first character that is no digit, or else an odd last digit
 abbrev pub bytes_from : ℕ → List ℕ → Result (List ℕ) Fault
 bytes_from at [] = Ok []
 bytes_from at (c ∷ []) = and_then (digit_from at c) (λ _. Err Odd)

@@ -20,4 +20,5 @@ block_written xs out room few within =
     let n = 4 * length xs in
     append_assoc (flat_map four xs) (drop n (take room out)) (drop room out)
     ∙ ap (λ l. flat_map four xs ++ l)
-    (sym (drop-append-le n (take room out) (drop room out) (omega (arith, length-take-le room out within))) ∙ ap (drop n) (take-append-drop room out))
+    (sym (drop-append-le n (take room out) (drop room out) (omega (arith, length-take-le room out within)))
+    ∙ ap (drop n) (take-append-drop room out))

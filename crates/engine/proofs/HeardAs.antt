@@ -1,5 +1,6 @@
 -- What a locked module hears, and what a frame is heard as.
-use Rattle.std.proofs.Common.{◌≡◌, ℕ, Bool, true, false, cond, not, ◌&&◌, ◌||◌, List, [], ◌∷◌, is_some, OnErr, Ok, Err, Result, sym, refl, ap, ◌∙◌, arith}
+use Rattle.std.proofs.Common.{◌≡◌, ℕ, Bool, true, false, cond, not, ◌&&◌, ◌||◌, List, [], ◌∷◌, is_some, OnErr, Ok, Err}
+use Rattle.std.proofs.Common.{Result, sym, refl, ap, ◌∙◌, arith}
 use Rattle.codes.specs.Commands.{command_number}
 use Rattle.codes.specs.declared.code.Code.TheVariants.{Locked}
 use Rattle.codes.specs.declared.command.Command.TheVariants.{Unlock}

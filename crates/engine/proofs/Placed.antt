@@ -1,5 +1,6 @@
 -- Outcomes that are written, with room for all of them.
-use Rattle.std.proofs.Common.{◌≡◌, ℕ, ◌+◌, ◌-◌, ◌^◌, ◌<◌, ◌≤◌, Bool, true, false, cond, eqb, List, [], ◌++◌, length, take, drop, Some, None, Option, unwrap_or, sym, refl, ap, ◌∙◌, subst, ⊎_elim, arith}
+use Rattle.std.proofs.Common.{◌≡◌, ℕ, ◌+◌, ◌-◌, ◌^◌, ◌<◌, ◌≤◌, Bool, true, false, cond, eqb, List, [], ◌++◌, length}
+use Rattle.std.proofs.Common.{take, drop, Some, None, Option, unwrap_or, sym, refl, ap, ◌∙◌, subst, ⊎_elim, arith}
 use borrow.Rule.Slice.PartMut.{put_mid}
 use Rattle.device.specs.View.{data_in}
 use Rattle.device.specs.declared.answers.Data.{Data}
@@ -23,31 +24,38 @@ use Rattle.promises.proofs.Sent.{length_ids, proper-reads}
 use Rattle.promises.specs.Sent.{FittingSaid, sent_of}
 use Rattle.std.specs.List.{AllByRecursion}
 use Rattle.std.proofs.ByRecursion.{All-get_or}
-use Rattle.std.proofs.lemmas.List.{append_assoc, drop_at, drop-drop, get_or_past, length-append, length-drop, length-take-le, take-append-drop, take_at}
+use Rattle.std.proofs.lemmas.List.{append_assoc, drop_at, drop-drop, get_or_past, length-append, length-drop}
+use Rattle.std.proofs.lemmas.List.{length-take-le, take-append-drop, take_at}
 use Rattle.std.proofs.lemmas.Bool.{cases_Bool, cases_lt, le-leb}
 
 -- bytes that stand at the front are what was said
-pub wrote : (own : ℕ) (ys : List Said) (bs before after : List ℕ) (n : ℕ) → own < 2 ^ 16 → AllByRecursion FittingSaid ys → bytes_of own ys ≡ bs
+pub wrote : (own : ℕ) (ys : List Said) (bs before after : List ℕ) (n : ℕ) → own < 2 ^ 16 → AllByRecursion FittingSaid ys
+    → bytes_of own ys ≡ bs
     → n ≡ length bs → after ≡ bs ++ drop (length bs) before → Wrote own ys before after n
 wrote own ys bs before after n small fit same e f =
     let front : take n after ≡ bytes_of own ys = ap (take n) f ∙ take_at bs (drop (length bs) before) n (sym e) ∙ sym same in
     record {
       count = e ∙ ap length (sym same);
       bytes = f ∙ ap (λ l. l ++ drop (length l) before) (sym same);
-      reads = λ proper. (let P : List ℕ → Type 0 = λ xs. ReadAs xs (sent_of own ys) in subst P (sym front) (proper-reads own ys small fit proper));
+      reads = λ proper. (let P : List ℕ → Type 0 = λ xs. ReadAs xs (sent_of own ys) in
+          subst P (sym front) (proper-reads own ys small fit proper));
     }
 
 -- where there is room, all is written
 pub settled : (bs out after : List ℕ) (o : Option ℕ) (n : ℕ) → o ≡ written_count bs out → after ≡ written bs out → length bs ≤ length out
     → n ≡ unwrap_or o 0 → (n ≡ length bs) × (after ≡ bs ++ drop (length bs) out)
 settled bs out after o n e f fits k =
-    let t = le-leb (length bs) (length out) fits in
-    (k ∙ ap (λ x. unwrap_or x 0) e ∙ ap (λ b. unwrap_or (cond b (Some (length bs)) None) 0) t, f ∙ ap (λ b. cond b (bs ++ drop (length bs) out) out) t)
+    let t = le-leb (length bs) (length out) fits in (
+      k ∙ ap (λ x. unwrap_or x 0) e ∙ ap (λ b. unwrap_or (cond b (Some (length bs)) None) 0) t,
+      f
+          ∙ ap (λ b. cond b (bs ++ drop (length bs) out) out) t,
+    )
 
 -- a reply without data is what was told
 pub told-bytes : (own : ℕ) (t : Told) (r : Reply) → r.to ≡ t.to → r.outcome ≡ t.outcome → r.«data».now ≡ []
     → reply_bytes own r ≡ bytes_in (reply_form own t.to) t.outcome []
-told-bytes own t r e f g = ap (λ to. bytes_in (reply_form own to) r.outcome r.«data».now) e ∙ ap (λ o. bytes_in (reply_form own t.to) o r.«data».now) f
+told-bytes own t r e f g = ap (λ to. bytes_in (reply_form own to) r.outcome r.«data».now) e
+    ∙ ap (λ o. bytes_in (reply_form own t.to) o r.«data».now) f
     ∙ ap (bytes_in (reply_form own t.to) t.outcome) g
 
 -- how long a reply is
@@ -64,7 +72,8 @@ short-reply (Some f) o bs =
     (cases_Bool (carries o))
 
 -- an outcome that has no place for data is the same with any
-pub bare : (own : ℕ) (to : Form) (o : Outcome) (xs ys : List ℕ) → None ≡ data_place to o → bytes_in (reply_form own to) o xs ≡ bytes_in (reply_form own to) o ys
+pub bare : (own : ℕ) (to : Form) (o : Outcome) (xs ys : List ℕ) → None ≡ data_place to o
+    → bytes_in (reply_form own to) o xs ≡ bytes_in (reply_form own to) o ys
 bare own to o xs ys e = at to (carries o) refl e
   where
     none-some : {X : Type 0} (n : ℕ) → None ≡ Some n → X
@@ -73,7 +82,8 @@ bare own to o xs ys e = at to (carries o) refl e
     quiet : (form : Form) → carries o ≡ false → outcome_bytes form o xs ≡ outcome_bytes form o ys
     quiet form t = ap (λ b. packet_bytes (outcome_head form o) b xs) t ∙ sym (ap (λ b. packet_bytes (outcome_head form o) b ys) t)
 
-    at : (f : Form) (b : Bool) → carries o ≡ b → None ≡ cond b (place_in f) None → bytes_in (reply_form own f) o xs ≡ bytes_in (reply_form own f) o ys
+    at : (f : Form) (b : Bool) → carries o ≡ b → None ≡ cond b (place_in f) None
+        → bytes_in (reply_form own f) o xs ≡ bytes_in (reply_form own f) o ys
     at Standard true t e = none-some (head_length Standard) e
     at Standard false t e = quiet Standard t
     at (Network n) b t e = by (eqb n 0) b t e
@@ -98,7 +108,13 @@ place own to o at e = by to (carries o) refl e
 
     by : (f : Form) (b : Bool) → carries o ≡ b → Some at ≡ cond b (place_in f) None → Place own f o at
     by Standard true t e =
-        let k : at ≡ head_length Standard = cc in record { head = k; low = omega (arith, k); whole = λ bs. length-packet (outcome_head Standard o) (carries o) bs t ∙ ap (λ n. n + (length bs + 1)) (sym k) }
+        let k : at ≡ head_length Standard = cc in
+        record {
+          head = k;
+          low = omega (arith, k);
+          whole = λ bs. length-packet (outcome_head Standard o) (carries o) bs t
+              ∙ ap (λ n. n + (length bs + 1)) (sym k);
+        }
     by Standard false t e = no_place e
     by (Network n) false t e = no_place e
     by (Network n) true t e = is (eqb n 0) refl e
@@ -115,17 +131,20 @@ place own to o at e = by to (carries o) refl e
             }
 
 -- how long data is: at most four bytes for each of 500 templates
-pub short-data : (size room : ℕ) (h : List Held) (d : Data) → size ≤ 384 → length h ≤ room → room ≤ 500 → AllByRecursion (Sound size) h → length (data_in h d) ≤ 2000
+pub short-data : (size room : ℕ) (h : List Held) (d : Data) → size ≤ 384 → length h ≤ room → room ≤ 500
+    → AllByRecursion (Sound size) h → length (data_in h d) ≤ 2000
 short-data size room h (Ids from most) small l r sound =
     omega (arith, length_ids (block_of from most h), block-length from most h)
 short-data size room h (Template place) small l r sound =
     ⊎_elim
     (λ (t : place < length h). let w = All-get_or (Sound size) h place none t sound in omega (arith, w.2))
-    (λ (t : length h ≤ place). let z : length (held_at h place).template ≡ 0 = ap (λ x. length x.template) (get_or_past h place none t) in omega arith)
+    (λ (t : length h ≤ place). let z : length (held_at h place).template ≡ 0 =
+    ap (λ x. length x.template) (get_or_past h place none t) in omega arith)
     (cases_lt place (length h))
 
 -- data put to its place, and the reply written around it
-module _ (own : ℕ) (to : Form) (o : Outcome) (at : ℕ) (p : Place own to o at) (out w bs : List ℕ) (n : ℕ) (inside : at + (length bs + 1) ≤ length out)
+module _ (own : ℕ) (to : Form) (o : Outcome) (at : ℕ) (p : Place own to o at) (out w bs : List ℕ) (n : ℕ)
+    (inside : at + (length bs + 1) ≤ length out)
     (many : n ≡ length bs) (put : w ≡ bs ++ drop n (take (length out - at) (drop at out))) where
   abbrev m : List ℕ
   m = put_mid at (length out - at) out w
@@ -150,16 +169,19 @@ module _ (own : ℕ) (to : Form) (o : Outcome) (at : ℕ) (p : Place own to o at
 
   m-long : length m ≡ length out
   m-long =
-      ap length (lent ∙ append_assoc (take at out) bs (drop (at + length bs) out)) ∙ length-append (take at out) (bs ++ drop (at + length bs) out)
+      ap length (lent ∙ append_assoc (take at out) bs (drop (at + length bs) out))
+      ∙ length-append (take at out) (bs ++ drop (at + length bs) out)
       ∙ ap (λ k. k + length (bs ++ drop (at + length bs) out)) head-long
-      ∙ ap (λ k. at + k) (length-append bs (drop (at + length bs) out) ∙ ap (λ k. length bs + k) (length-drop (at + length bs) out)) ∙ omega arith
+      ∙ ap (λ k. at + k) (length-append bs (drop (at + length bs) out)
+      ∙ ap (λ k. length bs + k) (length-drop (at + length bs) out)) ∙ omega arith
 
   behind : drop (at + (length bs + 1)) m ≡ drop (at + (length bs + 1)) out
   behind =
       let next : at + length bs + 1 ≡ at + (length bs + 1) = omega arith in
       let same : drop (at + length bs) m ≡ drop (at + length bs) out =
       ap (drop (at + length bs)) lent ∙ drop_at (take at out ++ bs) (drop (at + length bs) out) (at + length bs) both_long in
-      ap (λ k. drop k m) (sym next) ∙ sym (drop-drop 1 (at + length bs) m) ∙ ap (drop 1) same ∙ drop-drop 1 (at + length bs) out ∙ ap (λ k. drop k out) next
+      ap (λ k. drop k m) (sym next) ∙ sym (drop-drop 1 (at + length bs) m) ∙ ap (drop 1) same
+      ∙ drop-drop 1 (at + length bs) out ∙ ap (λ k. drop k out) next
 
   abbrev full : List ℕ
   full = bytes_in (reply_form own to) o bs
@@ -169,5 +191,6 @@ module _ (own : ℕ) (to : Form) (o : Outcome) (at : ℕ) (p : Place own to o at
       → (k ≡ length full) × (after ≡ full ++ drop (length full) out)
   around after r k e f v =
       let same = ap (bytes_in (reply_form own to) o) stands in
-      let t = settled full m after r k (e ∙ ap (λ x. written_count x m) same) (f ∙ ap (λ x. written x m) same) (omega (arith, p.whole bs, m-long)) v in
+      let t = settled full m after r k (e ∙ ap (λ x. written_count x m) same) (f ∙ ap (λ x. written x m) same)
+      (omega (arith, p.whole bs, m-long)) v in
       (t.0, t.1 ∙ ap (λ j. full ++ drop j m) (p.whole bs) ∙ ap (λ l. full ++ l) behind ∙ ap (λ j. full ++ drop j out) (sym (p.whole bs)))

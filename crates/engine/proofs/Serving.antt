@@ -1,5 +1,6 @@
 -- A call, from what was heard and written to what it shows.
-use Rattle.std.proofs.Common.{◌≡◌, ℕ, ◌<◌, ◌≤◌, true, List, map, length, replicate, is_ok, Ok, Err, Result, sym, refl, ap, ◌∙◌, subst, arith}
+use Rattle.std.proofs.Common.{◌≡◌, ℕ, ◌<◌, ◌≤◌, true, List, map, length, replicate, is_ok, Ok, Err, Result, sym, refl}
+use Rattle.std.proofs.Common.{ap, ◌∙◌, subst, arith}
 use Rattle.codes.specs.declared.refusal.Refusal.{Refusal}
 use Rattle.codes.specs.declared.refusal.Refusal.TheVariants.{AnswerBuffer, WorkBuffer}
 use Rattle.device.specs.View.{said_in, went}
@@ -44,7 +45,8 @@ module _ (v : State) (c : Call) (w : State) (s : step_of v c ≡ on_event v c.ev
       subst P same (refusing v c e p)
 
   pub answered : (a : Answers) (os : Outcomes) (n : ℕ) (after : List ℕ) → Heard v c.event (Ok a) w
-      → Wrote v.own (said_in w.held a) c.out after n → listed os ≡ map (λ y. y.outcome) (said_in w.held a) → AllByRecursion (Sound v.size) v.held
+      → Wrote v.own (said_in w.held a) c.out after n → listed os ≡ map (λ y. y.outcome) (said_in w.held a)
+      → AllByRecursion (Sound v.size) v.held
       → Shows v c.event (step_of v c) (Ok (record { outcomes = os; count = n })) w c.out after
   answered a os n after k wrote seen sound =
       let p : step_of v c ≡ Ok (went w a) = s ∙ sym k.step in
@@ -73,7 +75,8 @@ step-taken (Ok x) a p q = record { step = x; is = refl }
 step-taken (Err e) (Ok a) p q = absurd (let z : ◌≡◌ {A = ℕ} 0 1 = cc in omega arith)
 step-taken (Err e) (Err f) p q = never q
 
-pub serves : (v : State) (c : Call) (a : Result Answer Refusal) (w : State) (out work : List ℕ) → Shows v c.event (step_of v c) a w c.out out
+pub serves : (v : State) (c : Call) (a : Result Answer Refusal) (w : State) (out work : List ℕ)
+    → Shows v c.event (step_of v c) a w c.out out
     → work ≡ work_after c → Served v c a w out work
 serves v c a w out work shows after = record {
   shows = shows;
@@ -105,5 +108,6 @@ module _ (v : State) (c : Call) where
       rw (t, u)
 
 -- the promises, of what was served
-pub promised : (v : State) (c : Call) (a : Result Answer Refusal) (w : State) (out work : List ℕ) → Served v c a w out work → Keeps v (entry c a) w
+pub promised : (v : State) (c : Call) (a : Result Answer Refusal) (w : State) (out work : List ℕ)
+    → Served v c a w out work → Keeps v (entry c a) w
 promised v c a w out work k = keeps v c (seen a) (count_in a) w k.shows.answer k.shows.count k.shows.next

@@ -41,9 +41,10 @@ struck id (r ∷ rows) = cond (r.id == id) (struck id rows) (r ∷ struck id row
 -- the level in the row of an ID, changed
 abbrev pub changed : ℕ → Level → List AdminRow → List AdminRow
 changed id level [] = []
-changed id level (r ∷ rows) = cond (r.id == id) ((record { id = r.id; level = level }) ∷ rows) (r ∷ changed id level rows)
+changed id level (r ∷ rows) =
+    cond (r.id == id) ((record { id = r.id; level = level }) ∷ rows) (r ∷ changed id level rows)
 
--- the level is written into one row of at most 16: the ID's own, or a new one behind the others; `full` where none is left
+-- the level is written into one row of at most 16: the ID's own, or a new one behind them; `full` where none is left
 abbrev pub written : {X : Type 0} → ℕ → Level → List AdminRow → X → (List AdminRow → X) → X
 written id level rows full f =
     cond (is_some (level_of id rows)) (f (changed id level rows))

@@ -32,7 +32,8 @@ abbrev pub answer : RequestParts → ℕ → ℕ → Code → List Said
 answer q param size code = (record { to = q.form; outcome = outcome q.command param size code; «data» = [] }) ∷ []
 
 abbrev pub answer_data : RequestParts → ℕ → ℕ → Code → List ℕ → List Said
-answer_data q param size code bs = (record { to = q.form; outcome = outcome q.command param size code; «data» = bs }) ∷ []
+answer_data q param size code bs =
+    (record { to = q.form; outcome = outcome q.command param size code; «data» = bs }) ∷ []
 
 -- an outcome with nothing in Param and Size, which leaves the state as it is
 abbrev pub just : State → RequestParts → Code → Step
@@ -40,7 +41,11 @@ just s q code = go s (answer q 0 0 code)
 
 -- an outcome of a request that waits
 abbrev pub tell : Waiting → ℕ → ℕ → Code → Said
-tell w param size code = record { to = w.form; outcome = outcome (Known (command_of w.phase)) param size code; «data» = [] }
+tell w param size code = record {
+  to = w.form;
+  outcome = outcome (Known (command_of w.phase)) param size code;
+  «data» = [];
+}
 
 -- the bytes of the outcomes, one packet right behind the other
 abbrev pub bytes_of : ℕ → List Said → List ℕ

@@ -42,7 +42,7 @@ looks_up AddNew = false
 looks_up AutoId = false
 looks_up CheckFinger = true
 
--- what stands in the way of so many new templates, in the order of the tests; places to be replaced do not count as free
+-- what stands in the way of so many new templates, in the order of tests; places to be replaced do not count as free
 abbrev pub enroll_fault : State → EnrollFlag → ℕ → ℕ → Option Code
 enroll_fault s flag id needed =
     cond (needs_none flag && not (count_of id s.held == 0)) (Some ExistId)

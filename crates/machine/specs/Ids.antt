@@ -11,4 +11,5 @@ is_id n = within 1 65535 n
 abbrev pub range_of : ℕ → Option IdRange
 range_of n =
     cond (n == 0) (Some (record { least = 1; greatest = 65535 }))
-    (cond (nat_le 1 (n % 65536) && nat_le (n % 65536) (n / 65536)) (Some (record { least = n % 65536; greatest = n / 65536 })) None)
+    (cond (nat_le 1 (n % 65536) && nat_le (n % 65536) (n / 65536))
+    (Some (record { least = n % 65536; greatest = n / 65536 })) None)

@@ -130,7 +130,8 @@ abbrev pub change_password : State → RequestParts → Step
 change_password s q =
     cond (not (q.size == 36)) (just s q Unsupported)
     (cond (not (sum_right 0 q.«data» && sum_right 18 q.«data»)) (just s q TryAgain)
-    (cond (bytes_eq (password_at 0 q.«data») s.password) (just (guarded s (password_at 18 q.«data»)) q Success) (just s q NotMatch)))
+    (cond (bytes_eq (password_at 0 q.«data») s.password)
+    (just (guarded s (password_at 18 q.«data»)) q Success) (just s q NotMatch)))
 
 -- the tests that every enrolment begins with; `missing`: an administrator is wanted and there is none
 abbrev pub enroll : State → RequestParts → Enroller → Bool → ℕ → (Enrollment → Step) → Step

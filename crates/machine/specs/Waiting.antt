@@ -50,9 +50,10 @@ broken_off s w code = go (awaiting s None) (tell w 0 0 code ∷ [])
 -- the request goes on to wait for another finger, with a wait of its own
 abbrev pub goes_on : State → Waiting → Phase → List Said → Step
 goes_on s w phase xs =
-    go (awaiting s (Some (record { form = w.form; phase = phase; left = s.settings.timeout }))) (scanned s.settings.scans w xs)
+    go (awaiting s (Some (record { form = w.form; phase = phase; left = s.settings.timeout })))
+    (scanned s.settings.scans w xs)
 
--- an administrator's finger: CONTINUE with the ID of the oldest template that agrees, among those whose level allows the request
+-- an administrator's finger: CONTINUE with the ID of the oldest template that agrees, under a level that allows it
 abbrev pub granted : State → Waiting → Phase → Option (ℕ × ℕ) → Step
 granted s w phase None = ended s w 0 0 NotMatch
 granted s w phase (Some x) = goes_on s w phase (tell w x.0 0 Continue ∷ [])
@@ -101,8 +102,10 @@ deleted s w (Some x) =
 
 -- a good scan, by what is awaited
 abbrev pub pressed : State → Waiting → Phase → List ℕ → ℕ → Step
-pressed s w (grant_to_enroll e) scan quality = granted s w (first_finger e) (found_by s (is_admin may_enroll s.admins) scan)
-pressed s w (grant_to_delete range) scan quality = granted s w (person_to_delete range) (found_by s (is_admin may_delete s.admins) scan)
+pressed s w (grant_to_enroll e) scan quality =
+    granted s w (first_finger e) (found_by s (is_admin may_enroll s.admins) scan)
+pressed s w (grant_to_delete range) scan quality =
+    granted s w (person_to_delete range) (found_by s (is_admin may_delete s.admins) scan)
 pressed s w (first_finger e) scan quality =
     cond (looks_up e.flag && any_agrees s scan) (ended s w 0 0 ExistFinger) (first s w e s.settings.enroll scan quality)
 pressed s w (second_finger e one q1) scan quality =

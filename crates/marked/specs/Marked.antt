@@ -29,7 +29,8 @@ use Rattle.machine.specs.declared.settings.EnrollMode.TheVariants.{Once, TwoTemp
 
 -- a request by a standard packet, without data
 abbrev pub asks : Command → ℕ → ℕ → ℕ → RequestParts
-asks command param size flag = record { form = Standard; command = Known command; param = param; size = size; flag = flag; «data» = [] }
+asks command param size flag =
+    record { form = Standard; command = Known command; param = param; size = size; flag = flag; «data» = [] }
 
 -- the frame of ES for the ID 0x9929, but for its checksum
 abbrev pub enrolls9929 : ℕ → List ℕ
@@ -62,7 +63,8 @@ pub record Enrolls (s : State) (mode : EnrollMode) (id many : ℕ) : Type 0 wher
 abbrev pub awaits_finger : State → ℕ → Step
 awaits_finger s id = wait_for s (adds id) (first_finger (record { id = id; flag = AddNew; by = Host }))
 
--- the checksum of ES for the ID 0x9929, and of LT answering three IDs; the IDs in a last block; the templates that leave room for two more
+-- the checksum of ES for the ID 0x9929, and of LT answering three IDs; the IDs in a last block; the templates that
+-- leave room for two more
 pub record MarkedCases (enroll_sum list_sum last_block room_for_two : ℕ) : Type 0 where
   pub checksum_enrolling : (s : State) → s.settings.network ≡ Single
       → on_event s (packet (enrolls9929 enroll_sum)) ≡ Ok (requested s (asks Enroll 0x9929 0 0))
@@ -73,8 +75,10 @@ pub record MarkedCases (enroll_sum list_sum last_block room_for_two : ℕ) : Typ
   pub password_sum : highest_password ≡ 0xF0 ∷ 0x0F ∷ []
   pub block_nine : (s : State) → Idle s → length s.held ≡ 490 → (length (drop 450 (ids_held s)) ≡ last_block)
       × (requested s (asks_block 9)
-      ≡ go s (answer_data (asks_block 9) last_block (4 * last_block) Success (flat_map bytes32 (drop 450 (ids_held s)))))
-  pub block_ten : (s : State) → Idle s → length s.held ≡ 490 → requested s (asks_block 10) ≡ just s (asks_block 10) InvalidId
+      ≡ go s (answer_data (asks_block 9) last_block (4 * last_block) Success
+      (flat_map bytes32 (drop 450 (ids_held s)))))
+  pub block_ten : (s : State) → Idle s → length s.held ≡ 490
+      → requested s (asks_block 10) ≡ just s (asks_block 10) InvalidId
   pub two_more : (s : State) (id : ℕ) → Enrolls s TwoTemplates id room_for_two → 2 ≤ s.room - length s.held
       → requested s (adds id) ≡ awaits_finger s id
   pub two_too_many : (s : State) (id : ℕ) → Enrolls s TwoTemplates id (room_for_two + 1)

@@ -1,5 +1,6 @@
 -- A block of IDs: how many they are, each of them, and how they are written one behind the other.
-use Rattle.std.proofs.Common.{◌≡◌, ℕ, ◌+◌, ◌-◌, ◌*◌, ◌<◌, min, List, [], ◌∷◌, ◌++◌, map, length, get_or, take, drop, refl, sym, ap, ◌∙◌, arith}
+use Rattle.std.proofs.Common.{◌≡◌, ℕ, ◌+◌, ◌-◌, ◌*◌, ◌<◌, min, List, [], ◌∷◌, ◌++◌, map, length, get_or, take, drop}
+use Rattle.std.proofs.Common.{refl, sym, ap, ◌∙◌, arith}
 use Rattle.std.specs.Int.{to_le_bytes, w32}
 use Rattle.std.specs.List.{flat_map}
 use Rattle.std.proofs.lemmas.List.{append_assoc, drop_at, drop-drop, flat_map_more, get_or-drop, get_or-map, get_or-take, length-drop}
@@ -30,7 +31,8 @@ length-fours (id ∷ ids) = omega (arith, length-fours ids)
 
 -- one ID more is written
 pub one_more : (xs out before w : List ℕ) (k x n at : ℕ) → k < length xs → x ≡ get_or xs k 0 → w ≡ four x → n ≡ 4 → at ≡ 4 * k
-    → out ≡ flat_map four (take k xs) ++ drop (4 * k) before → put_mid at n out w ≡ flat_map four (take (k + 1) xs) ++ drop (4 * (k + 1)) before
+    → out ≡ flat_map four (take k xs) ++ drop (4 * k) before
+    → put_mid at n out w ≡ flat_map four (take (k + 1) xs) ++ drop (4 * (k + 1)) before
 one_more xs out before w k x n at inside is wrote size place e =
     let j = flat_map four (take k xs) in
     let few : length (take k xs) ≡ k = length-take-le k xs (omega arith) in
@@ -41,13 +43,16 @@ one_more xs out before w k x n at inside is wrote size place e =
     let behind : drop (4 * k + 4) out ≡ drop (4 * (k + 1)) before =
     sym (drop-drop 4 (4 * k) out) ∙ ap (drop 4) back ∙ drop-drop 4 (4 * k) before ∙ ap (λ n. drop n before) next in
     let more : flat_map four (take (k + 1) xs) ≡ j ++ four x =
-    ap (flat_map four) (take_more xs k 0 inside) ∙ sym (flat_map_more four [] (take k xs) (get_or xs k 0)) ∙ ap (λ y. j ++ four y) (sym is) in
+    ap (flat_map four) (take_more xs k 0 inside) ∙ sym (flat_map_more four [] (take k xs) (get_or xs k 0))
+    ∙ ap (λ y. j ++ four y) (sym is) in
     rw (place, size, wrote)
-    (ap (λ l. take (4 * k) out ++ (four x ++ l)) (drop-drop 4 (4 * k) out) ∙ ap (λ l. l ++ (four x ++ drop (4 * k + 4) out)) front ∙ ap (λ l. j ++ (four x ++ l)) behind
+    (ap (λ l. take (4 * k) out ++ (four x ++ l)) (drop-drop 4 (4 * k) out)
+    ∙ ap (λ l. l ++ (four x ++ drop (4 * k + 4) out)) front ∙ ap (λ l. j ++ (four x ++ l)) behind
     ∙ sym (append_assoc j (four x) (drop (4 * (k + 1)) before)) ∙ ap (λ l. l ++ drop (4 * (k + 1)) before) (sym more))
 
 -- all IDs are written
 pub all_written : (xs out before : List ℕ) (k : ℕ) → k ≡ length xs → out ≡ flat_map four (take k xs) ++ drop (4 * k) before
     → out ≡ flat_map four xs ++ drop (4 * length xs) before
 all_written xs out before k all e =
-    e ∙ ap (λ ids. flat_map four ids ++ drop (4 * k) before) (take_all k xs (omega arith)) ∙ ap (λ n. flat_map four xs ++ drop (4 * n) before) all
+    e ∙ ap (λ ids. flat_map four ids ++ drop (4 * k) before) (take_all k xs (omega arith))
+    ∙ ap (λ n. flat_map four xs ++ drop (4 * n) before) all

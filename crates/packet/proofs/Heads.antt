@@ -1,5 +1,7 @@
 -- A packet that passed its tests: what is read of it, and that its fields write back to its bytes.
-use Rattle.std.proofs.Common.{◌≡◌, ℕ, zero, suc, ◌+◌, ◌-◌, ◌≤◌, Bool, true, false, eqb, List, [], ◌∷◌, ◌++◌, length, get_or, take, drop, Some, None, Ok, Err, Option, Result, sym, refl, ap, ◌∙◌, add-zero, zero-add, arith}
+use Rattle.std.proofs.Common.{◌≡◌, ℕ, zero, suc, ◌+◌, ◌-◌, ◌≤◌, Bool, true, false, eqb, List, [], ◌∷◌, ◌++◌, length}
+use Rattle.std.proofs.Common.{get_or, take, drop, Some, None, Ok, Err, Option, Result, sym, refl, ap, ◌∙◌, add-zero}
+use Rattle.std.proofs.Common.{zero-add, arith}
 use Rattle.std.proofs.lemmas.Bool.{le-ltb, eqb-true}
 use Rattle.std.proofs.lemmas.List.{take_rest, take-append-drop, drop_more, append_assoc, append_cancel_right}
 use Rattle.codes.specs.declared.refusal.Refusal.{Refusal}
@@ -61,7 +63,9 @@ pub packed : (n : ℕ) (xs bs : List ℕ) → n + 2 ≤ length xs → bs ≡ fir
 packed n xs bs len same sum end =
     let front : bs ≡ take n xs = same ∙ firsts-take n xs (omega arith) in
     let more : drop n xs ≡ get_or xs n 0 ∷ get_or xs (n + 1) 0 ∷ drop (n + 2) xs =
-    drop_more xs n 0 (omega arith) ∙ ap (λ l. get_or xs n 0 ∷ l) (drop_more xs (n + 1) 0 (omega arith) ∙ ap (λ k. get_or xs (n + 1) 0 ∷ drop k xs) (omega arith)) in
+    drop_more xs n 0 (omega arith)
+    ∙ ap (λ l. get_or xs n 0 ∷ l)
+    (drop_more xs (n + 1) 0 (omega arith) ∙ ap (λ k. get_or xs (n + 1) 0 ∷ drop k xs) (omega arith)) in
     ap (λ l. (l ++ checksum_of l ∷ 0x0A ∷ []) ++ drop (n + 2) xs) front
     ∙ append_assoc (take n xs) (checksum_of (take n xs) ∷ 0x0A ∷ []) (drop (n + 2) xs)
     ∙ ap (λ b. take n xs ++ b ∷ 0x0A ∷ drop (n + 2) xs) (sym sum)

@@ -18,7 +18,8 @@ room-around h out m n i at lt mh =
     let len : length bs ≡ n = length-take-le n (drop k out) (omega arith) in
     let front : length (head_bytes h ++ bs) ≡ i = length-append (head_bytes h) bs ∙ ap (λ j. j + length bs) (length-head h) ∙ omega arith in
     let parts : m ≡ (head_bytes h ++ bs) ++ drop i out =
-    mh ∙ ap (λ l. head_bytes h ++ l) (sym (take-append-drop n (drop k out)) ∙ ap (λ l. bs ++ l) (drop-drop n k out ∙ ap (λ j. drop j out) (sym at)))
+    mh ∙ ap (λ l. head_bytes h ++ l)
+    (sym (take-append-drop n (drop k out)) ∙ ap (λ l. bs ++ l) (drop-drop n k out ∙ ap (λ j. drop j out) (sym at)))
     ∙ sym (append_assoc (head_bytes h) bs (drop i out)) in
     let all : i + 1 ≡ length (packet_bytes h true bs) = sym (length-packet h true bs refl ∙ omega arith) in
     let fits = le-leb (length (packet_bytes h true bs)) (length out) (omega arith) in

@@ -1,5 +1,7 @@
 -- What is written is read again as what it was.
-use Rattle.std.proofs.Common.{◌≡◌, ℕ, ◌+◌, ◌*◌, ◌/◌, ◌%◌, ◌^◌, ◌<◌, Bool, true, false, cond, eqb, List, [], ◌∷◌, ◌++◌, length, drop, IfSome, Some, None, Ok, Err, Option, Result, sym, refl, ap, ◌∙◌, subst, arith}
+use Rattle.std.proofs.Common.{◌≡◌, ℕ, ◌+◌, ◌*◌, ◌/◌, ◌%◌, ◌^◌, ◌<◌, Bool, true, false, cond, eqb, List, [], ◌∷◌, ◌++◌}
+use Rattle.std.proofs.Common.{length, drop, IfSome, Some, None, Ok, Err, Option, Result, sym, refl, ap, ◌∙◌, subst}
+use Rattle.std.proofs.Common.{arith}
 use Rattle.std.proofs.lemmas.Bool.{eq-eqb, le-ltb, lt-ltb}
 use Rattle.std.proofs.lemmas.List.{append_assoc, append-nil, length-append, length_push, take_at, drop_at, get_or_at}
 use Rattle.std.proofs.lemmas.Nat.{shr-shr, div_below}
@@ -22,7 +24,8 @@ use Rattle.packet.specs.Heads.{head_bytes, read_head, summed_bytes}
 use Rattle.packet.specs.Data.{asks_with_data, answers_with_data, data_bytes, split_data}
 use Rattle.packet.specs.Requests.{RequestParts, nothing_behind, read_request, request_of, request_head, request_bytes, with_data}
 use Rattle.codes.proofs.Known.{known-code}
-use Rattle.packet.specs.Responses.{ResponseParts, answered, bytes_in, carries, either_head, outcome_bytes, outcome_head, read_response, reply_bytes, reply_form, response_of}
+use Rattle.packet.specs.Responses.{ResponseParts, answered, bytes_in, carries, either_head, outcome_bytes, outcome_head}
+use Rattle.packet.specs.Responses.{read_response, reply_bytes, reply_form, response_of}
 use Rattle.packet.specs.Trips.{AsRead, Belongs, HeardIn, Heard, Proper, ReadAs, sent, sent_in}
 
 -- four bytes, low first, are the number again
@@ -75,7 +78,8 @@ read-data true size bs behind h =
     ap (drop (size + 1)) (sym joined) ∙ drop_at (bs ++ 0x0A ∷ []) behind (size + 1) (length_push bs 0x0A ∙ ap (λ n. n + 1) h) in
     rw (joined, lt-ltb size (length (bs ++ 0x0A ∷ behind)) len, get_or_at bs 0x0A behind 0 size h, take_at bs (0x0A ∷ behind) size h, end)
 
-pub requests-read-back : (mode : NetworkMode) (own : ℕ) (q : RequestParts) → Heard mode own q → read_request mode own (request_bytes q) ≡ Ok q
+pub requests-read-back : (mode : NetworkMode) (own : ℕ) (q : RequestParts) → Heard mode own q
+    → read_request mode own (request_bytes q) ≡ Ok q
 requests-read-back mode own q h =
     let carried = asks_with_data q.command in
     let head : read_head mode (request_bytes q) ≡ Ok (request_head q, data_bytes carried q.«data») =
@@ -83,7 +87,8 @@ requests-read-back mode own q h =
     let body : split_data carried q.size (data_bytes carried q.«data») ≡ Ok (q.«data», []) =
     ap (split_data carried q.size) (sym (append-nil (data_bytes carried q.«data»))) ∙ read-data carried q.size q.«data» [] h.data_belongs in
     ap (request_of own) head
-    ∙ ap (λ b. cond b (with_data (request_head q) (nothing_behind (split_data carried q.size (data_bytes carried q.«data»)))) (Err Terminal)) h.for_it
+    ∙ ap (λ b. cond b (with_data (request_head q)
+    (nothing_behind (split_data carried q.size (data_bytes carried q.«data»)))) (Err Terminal)) h.for_it
     ∙ ap (λ r. with_data (request_head q) (nothing_behind r)) body
 
 -- a form with a terminal number of two bytes

@@ -1,8 +1,10 @@
 -- What is written, and the bytes behind it, which stay.
-use Rattle.std.proofs.Common.{◌≡◌, ℕ, ◌+◌, ◌-◌, ◌<◌, ◌≤◌, Bool, true, false, cond, List, [], ◌∷◌, ◌++◌, length, get_or, take, drop, set, IfSome, nat_le, Some, None, Option, sym, refl, ap, ◌∙◌, subst, arith}
+use Rattle.std.proofs.Common.{◌≡◌, ℕ, ◌+◌, ◌-◌, ◌<◌, ◌≤◌, Bool, true, false, cond, List, [], ◌∷◌, ◌++◌, length, get_or}
+use Rattle.std.proofs.Common.{take, drop, set, IfSome, nat_le, Some, None, Option, sym, refl, ap, ◌∙◌, subst, arith}
 use borrow.Rule.Slice.PartMut.{put_mid}
 use native.Mathlib.Nat.{sub-zero}
-use Rattle.std.proofs.lemmas.List.{take_at, drop_at, take_rest, drop-drop, drop_all, append-nil, append_assoc, length-append, length-drop, length_push, drop_more, set_at}
+use Rattle.std.proofs.lemmas.List.{take_at, drop_at, take_rest, drop-drop, drop_all, append-nil, append_assoc}
+use Rattle.std.proofs.lemmas.List.{length-append, length-drop, length_push, drop_more, set_at}
 use Rattle.codes.specs.declared.command.Command.{Command}
 use Rattle.codes.specs.declared.numbered.Coded.{Coded}
 use Rattle.packet.specs.declared.form.Form.{Form}
@@ -66,24 +68,28 @@ parts-are xs ys out p q px qy =
 pub summed-parts : (xs ys out p q : List ℕ) → p ≡ xs → q ≡ ys → take (length xs + length ys - 0) (parts xs ys out p q) ≡ xs ++ ys
 summed-parts xs ys out p q px qy =
     rw (sub-zero (length xs + length ys))
-    (ap (take (length xs + length ys)) (parts-are xs ys out p q px qy) ∙ take_at (xs ++ ys) (drop (length xs + length ys) out) (length xs + length ys) (length-append xs ys))
+    (ap (take (length xs + length ys)) (parts-are xs ys out p q px qy)
+    ∙ take_at (xs ++ ys) (drop (length xs + length ys) out) (length xs + length ys) (length-append xs ys))
 
 -- two parts written one behind the other, then the checksum of both and the end code
 pub closing : (xs ys out p q : List ℕ) (s : ℕ) → p ≡ xs → q ≡ ys → length xs + length ys + 2 ≤ length out
     → s ≡ checksum_of (xs ++ ys)
-    → set (set (parts xs ys out p q) (length xs + length ys) s) (length xs + length ys + 1) 0x0A ≡ closed (xs ++ ys) ++ drop (length xs + length ys + 2) out
+    → set (set (parts xs ys out p q) (length xs + length ys) s) (length xs + length ys + 1) 0x0A ≡ closed (xs ++ ys)
+    ++ drop (length xs + length ys + 2) out
 closing xs ys out p q s px qy h sum =
     let n = length xs + length ys in
     let len : length (xs ++ ys) ≡ n = length-append xs ys in
     ap (λ l. set (set l n s) (n + 1) 0x0A) (parts-are xs ys out p q px qy)
     ∙ ap (λ l. set l (n + 1) 0x0A) (ended out (xs ++ ys) (xs ++ ys) n n s len refl refl (omega arith))
-    ∙ ended out ((xs ++ ys) ++ s ∷ []) ((xs ++ ys) ++ s ∷ []) (n + 1) (n + 1) 0x0A (length_push (xs ++ ys) s ∙ ap (λ k. k + 1) len) refl refl (omega arith)
+    ∙ ended out ((xs ++ ys) ++ s ∷ []) ((xs ++ ys) ++ s ∷ []) (n + 1) (n + 1) 0x0A
+    (length_push (xs ++ ys) s ∙ ap (λ k. k + 1) len) refl refl (omega arith)
     ∙ ap (λ l. l ++ drop (n + 1 + 1) out) (append_assoc (xs ++ ys) (s ∷ []) (0x0A ∷ []))
     ∙ ap (λ b. ((xs ++ ys) ++ b ∷ 0x0A ∷ []) ++ drop (n + 1 + 1) out) sum
     ∙ ap (λ k. closed (xs ++ ys) ++ drop k out) (omega arith)
 
 -- a packet without data, by its start and its fields
-pub headed : (h : Head) (f : Form) (ss fs out new : List ℕ) → h.form ≡ f → ss ≡ start_bytes f → fs ≡ field_bytes h.command h.param h.size h.flag
+pub headed : (h : Head) (f : Form) (ss fs out new : List ℕ) → h.form ≡ f → ss ≡ start_bytes f
+    → fs ≡ field_bytes h.command h.param h.size h.flag
     → new ≡ closed (ss ++ fs) ++ drop (length ss + length fs + 2) out → new ≡ head_bytes h ++ drop (head_length h.form) out
 headed h f ss fs out new is sf ff e =
     e ∙ ap (λ l. closed (l ++ fs) ++ drop (length l + length fs + 2) out) (sf ∙ ap start_bytes (sym is))

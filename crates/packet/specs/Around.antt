@@ -6,7 +6,7 @@ use Rattle.packet.specs.declared.response.Outcome.{Outcome}
 use Rattle.packet.specs.Heads.{head_length}
 use Rattle.packet.specs.Responses.{carries}
 
--- where the data of a reply to a request of a form stands in the reply: right behind the packet; a broadcast has no reply
+-- where the data of a reply to a request of a form stands in the reply: right behind the packet; a broadcast has none
 abbrev pub place_in : Form → Option ℕ
 place_in Standard = Some (head_length Standard)
 place_in (Network n) = cond (n == 0) None (Some (head_length (Network n)))

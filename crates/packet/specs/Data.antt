@@ -31,7 +31,8 @@ asks_with_data command = known_among command_number (EnrollTemplate ∷ Unlock �
 -- the responses that carry data
 abbrev pub answers_with_data : Coded Command → Coded Code → Bool
 answers_with_data command code =
-    known_among command_number (ListTemplates ∷ ReadTemplate ∷ []) command && known_among code_number (Success ∷ []) code
+    known_among command_number (ListTemplates ∷ ReadTemplate ∷ []) command
+    && known_among code_number (Success ∷ []) code
 
 -- what is written behind a packet: its data and 0x0A, where it carries any
 abbrev pub data_bytes : Bool → List ℕ → List ℕ
@@ -42,7 +43,8 @@ data_bytes true bs = bs ++ 0x0A ∷ []
 abbrev pub split_data : Bool → ℕ → List ℕ → Result (List ℕ × List ℕ) Refusal
 split_data false size bs = Ok ([], bs)
 split_data true size bs =
-    cond (nat_lt size (length bs) && slice_index bs size == 0x0A) (Ok (take size bs, drop (size + 1) bs)) (Err DataLength)
+    cond (nat_lt size (length bs) && slice_index bs size == 0x0A) (Ok (take size bs, drop (size + 1) bs))
+    (Err DataLength)
 
 -- the same of slices
 abbrev pub seen_data : Result (Bor (List ℕ) × Bor (List ℕ)) Refusal → Result (List ℕ × List ℕ) Refusal

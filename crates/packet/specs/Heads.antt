@@ -63,7 +63,8 @@ unless None x = Ok x
 abbrev pub tested : {X : Type 0} → ℕ → ℕ → List ℕ → X → Result X Refusal
 tested start n xs x =
     cond (nat_lt (length xs) n) (Err TooShort)
-    (unless (flaw (slice_index xs 0 == start) (slice_index xs (n - 1) == 0x0A) (slice_index xs (n - 2) == checksum_of (take (n - 2) xs))) x)
+    (unless (flaw (slice_index xs 0 == start) (slice_index xs (n - 1) == 0x0A)
+    (slice_index xs (n - 2) == checksum_of (take (n - 2) xs))) x)
 
 -- the packet at the front of some bytes, in the form that is heard, and the bytes behind it
 abbrev pub read_head : NetworkMode → List ℕ → Result (Head × List ℕ) Refusal

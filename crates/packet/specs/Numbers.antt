@@ -14,7 +14,8 @@ le16 bs i = slice_index bs i + slice_index bs (i + 1) * 256
 
 -- the number in the four bytes from a place on, low byte first
 abbrev pub le32 : List ℕ → ℕ → ℕ
-le32 bs i = slice_index bs i + slice_index bs (i + 1) * 256 + slice_index bs (i + 2) * 65536 + slice_index bs (i + 3) * 16777216
+le32 bs i = slice_index bs i + slice_index bs (i + 1) * 256 + slice_index bs (i + 2) * 65536
+    + slice_index bs (i + 3) * 16777216
 
 -- the two bytes of a number, low byte first
 abbrev pub bytes16 : ℕ → List ℕ

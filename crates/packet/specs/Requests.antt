@@ -22,7 +22,14 @@ pub record RequestParts : Type 0 where
   pub «data» : List ℕ
 
 abbrev pub request_parts : Request → RequestParts
-request_parts q = record { form = q.form; command = q.command; param = q.param; size = q.size; flag = q.flag; «data» = q.«data».now }
+request_parts q = record {
+  form = q.form;
+  command = q.command;
+  param = q.param;
+  size = q.size;
+  flag = q.flag;
+  «data» = q.«data».now;
+}
 
 -- a request whose command carries data has as much as Size says
 abbrev pub has_data : RequestParts → Bool
@@ -43,7 +50,8 @@ nothing_behind (Ok x) = cond (length x.1 == 0) (Ok x.0) (Err DataLength)
 nothing_behind (Err e) = Err e
 
 abbrev pub with_data : Head → Result (List ℕ) Refusal → Result RequestParts Refusal
-with_data h (Ok bs) = Ok (record { form = h.form; command = h.command; param = h.param; size = h.size; flag = h.flag; «data» = bs })
+with_data h (Ok bs) =
+    Ok (record { form = h.form; command = h.command; param = h.param; size = h.size; flag = h.flag; «data» = bs })
 with_data h (Err e) = Err e
 
 -- the tests behind those of the packet itself: terminal number, then data

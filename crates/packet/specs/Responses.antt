@@ -30,11 +30,24 @@ pub record ResponseParts : Type 0 where
 
 -- an outcome in a form, as a response says it
 abbrev pub answered : Form → Outcome → List ℕ → ResponseParts
-answered form o bs = record { form = form; command = o.command; param = o.param; size = o.size; code = Known o.code; «data» = bs }
+answered form o bs = record {
+  form = form;
+  command = o.command;
+  param = o.param;
+  size = o.size;
+  code = Known o.code;
+  «data» = bs;
+}
 
 -- the bytes of an outcome in a form
 abbrev pub outcome_head : Form → Outcome → Head
-outcome_head form o = record { form = form; command = o.command; param = o.param; size = o.size; flag = code_number o.code }
+outcome_head form o = record {
+  form = form;
+  command = o.command;
+  param = o.param;
+  size = o.size;
+  flag = code_number o.code;
+}
 
 abbrev pub carries : Outcome → Bool
 carries o = answers_with_data o.command (Known o.code)
@@ -66,14 +79,22 @@ either_head xs = cond (slice_index xs 0 == 0x41) (read_head Networked xs) (read_
 
 abbrev pub with_response_data : Head → Result (List ℕ × List ℕ) Refusal → Result (ResponseParts × List ℕ) Refusal
 with_response_data h (Ok x) = Ok (
-  record { form = h.form; command = h.command; param = h.param; size = h.size; code = coded code_number all_codes h.flag; «data» = x.0 },
+  record {
+    form = h.form;
+    command = h.command;
+    param = h.param;
+    size = h.size;
+    code = coded code_number all_codes h.flag;
+    «data» = x.0;
+  },
   x.1,
 )
 with_response_data h (Err e) = Err e
 
 abbrev pub response_of : Result (Head × List ℕ) Refusal → Result (ResponseParts × List ℕ) Refusal
 response_of (Ok x) =
-    with_response_data x.0 (split_data (answers_with_data x.0.command (coded code_number all_codes x.0.flag)) x.0.size x.1)
+    with_response_data x.0
+    (split_data (answers_with_data x.0.command (coded code_number all_codes x.0.flag)) x.0.size x.1)
 response_of (Err e) = Err e
 
 -- the response at the front of some bytes, and the bytes behind it
@@ -81,7 +102,14 @@ abbrev pub read_response : List ℕ → Result (ResponseParts × List ℕ) Refus
 read_response xs = response_of (either_head xs)
 
 abbrev pub response_parts : Response → ResponseParts
-response_parts p = record { form = p.form; command = p.command; param = p.param; size = p.size; code = p.code; «data» = p.«data».now }
+response_parts p = record {
+  form = p.form;
+  command = p.command;
+  param = p.param;
+  size = p.size;
+  code = p.code;
+  «data» = p.«data».now;
+}
 
 abbrev pub seen_response : Result (Response × Bor (List ℕ)) Refusal → Result (ResponseParts × List ℕ) Refusal
 seen_response (Ok x) = Ok (response_parts x.0, x.1.now)

@@ -1,5 +1,6 @@
 -- A template more: the first free page is written, and its record gets the ID.
-use Rattle.std.proofs.Common.{◌≡◌, ℕ, ◌+◌, ◌*◌, ◌/◌, ◌^◌, ◌<◌, ◌≤◌, min, ◌≢◌, List, [], ◌∷◌, ◌++◌, map, length, take, set, sym, ap, ◌∙◌, ⊎_elim, arith}
+use Rattle.std.proofs.Common.{◌≡◌, ℕ, ◌+◌, ◌*◌, ◌/◌, ◌^◌, ◌<◌, ◌≤◌, min, ◌≢◌, List, [], ◌∷◌, ◌++◌, map, length, take}
+use Rattle.std.proofs.Common.{set, sym, ap, ◌∙◌, ⊎_elim, arith}
 use lib.Seq.{paste}
 use Rattle.std.specs.Vec.{with_items}
 use Rattle.std.specs.List.{ContainsAt as Has}
@@ -102,6 +103,7 @@ module _ (m : PageMemory) (id : ℕ) (template : List ℕ) (room : m.count < roo
       × (capacity_of (with_items m.bytes ws).items ≡ room_of m)
       × NewPage (room_of m) (pages_of m) (pages_in directory' (m.count + 1))
   added ws bs page wrote same first some small =
-      let e : ws ≡ bytes' = wrote ∙ ap (λ b. paste b (page * 256) template 256) same ∙ ap (λ p. paste (bytes_of m) (p * 256) template 256) first in
+      let e : ws ≡ bytes' = wrote ∙ ap (λ b. paste b (page * 256) template 256) same
+      ∙ ap (λ p. paste (bytes_of m) (p * 256) template 256) first in
       let refill : (with_items m.bytes ws).items ≡ bytes' = with_items_is m.bytes ws (ap length e ∙ bytes-length ∙ sym m.bytes.ok.0) ∙ e in
       rw refill ((filed-added some small, inside-added, apart-added), held-added, capacity-same, page-added)

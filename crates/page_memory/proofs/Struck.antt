@@ -1,8 +1,11 @@
 -- A template less: its record goes behind the others, so that its page is free.
-use Rattle.std.proofs.Common.{◌≡◌, ℕ, Bool, suc, ◌+◌, ◌-◌, ◌<◌, ◌≤◌, cond, eqb, ltb, ◌≢◌, List, [], ◌∷◌, ◌++◌, map, length, get_or, take, drop, Some, sym, refl, ap, ◌∙◌, ⊎_elim, arith}
+use Rattle.std.proofs.Common.{◌≡◌, ℕ, Bool, suc, ◌+◌, ◌-◌, ◌<◌, ◌≤◌, cond, eqb, ltb, ◌≢◌, List, [], ◌∷◌, ◌++◌, map}
+use Rattle.std.proofs.Common.{length, get_or, take, drop, Some, sym, refl, ap, ◌∙◌, ⊎_elim, arith}
 use Rattle.std.specs.List.{position_or_len, remove}
 use Rattle.std.proofs.lemmas.List.Sums.{position_or_len_is}
-use Rattle.std.proofs.lemmas.List.{length-append, length-drop, length-take-le, drop_more, get_or_at, get_or-take, get_or-drop, get_or_append_left, get_or-append_right, map-append, take-map, drop-map, take_at, append_assoc}
+use Rattle.std.proofs.lemmas.List.{length-append, length-drop, length-take-le, drop_more, get_or_at, get_or-take}
+use Rattle.std.proofs.lemmas.List.{get_or-drop, get_or_append_left, get_or-append_right, map-append, take-map, drop-map}
+use Rattle.std.proofs.lemmas.List.{take_at, append_assoc}
 use Rattle.std.proofs.lemmas.List.Edits.{length-remove, get_or-remove_below, get_or-remove_above}
 use Rattle.std.proofs.lemmas.Bool.{cases_lt, cases_eq, cases_order, eq-eqb, ne_eqb}
 use Rattle.std.proofs.lemmas.Bool.Decides.{nat_tests}
@@ -18,7 +21,8 @@ found_at : {X : Type 0} (key_of : X → ℕ) (xs : List X) (at : ℕ) (d : X) �
     → ((k : ℕ) → k < at → key_of (get_or xs k d) ≡ key_of (get_or xs at d) → ⊥) → place_of key_of (key_of (get_or xs at d)) xs ≡ Some at
 found_at {X = X} key_of xs at d inside first =
     let has : X → Bool = λ x. eqb (key_of x) (key_of (get_or xs at d)) in
-    let i : position_or_len has xs ≡ at = position_or_len_is has xs at d (omega arith) (λ k l. ne_eqb _ _ (first k l)) (λ _. eq-eqb _ _ refl) in
+    let i : position_or_len has xs ≡ at =
+    position_or_len_is has xs at d (omega arith) (λ k l. ne_eqb _ _ (first k l)) (λ _. eq-eqb _ _ refl) in
     grind (arith, nat_tests)
 
 pub map-removed : {X Y : Type 0} (f : X → Y) (xs : List X) (at : ℕ) → map f (remove xs at) ≡ remove (map f xs) at
@@ -48,10 +52,12 @@ module _ (m : PageMemory) (place : ℕ) (there : place < m.count) where
 
   first : (k : ℕ) → k < place → (get_or front k blank).page ≡ (get_or front place blank).page → ⊥
   first k l e =
-      m.apart k place l (omega (arith, m.filed.1)) (ap (λ r. r.page) (sym (front_at k (omega arith))) ∙ e ∙ ap (λ r. r.page) (front_at place there))
+      m.apart k place l (omega (arith, m.filed.1))
+      (ap (λ r. r.page) (sym (front_at k (omega arith))) ∙ e ∙ ap (λ r. r.page) (front_at place there))
 
   -- the page at the place stands first there, so that this is the record that is struck among the first `n`
-  pub strikes : (rows : List Record) (n : ℕ) → n ≡ m.count → rows ≡ struck (λ r. r.page) (record_at m.directory place).page (take n m.directory)
+  pub strikes : (rows : List Record) (n : ℕ) → n ≡ m.count
+      → rows ≡ struck (λ r. r.page) (record_at m.directory place).page (take n m.directory)
       → rows ++ drop n m.directory ≡ directory'
   strikes rows n all e =
       let one : take 1 (drop place front) ≡ record_at m.directory place ∷ [] =
@@ -113,7 +119,8 @@ module _ (m : PageMemory) (place : ℕ) (there : place < m.count) where
       let b = from-inside 64 j all (omega arith) in
       ⊎_elim
       (λ (z : from j ≡ from k). from-apart j k l z)
-      (⊎_elim (λ (z : from j < from k). m.apart (from j) (from k) z a same) (λ (z : from k < from j). m.apart (from k) (from j) z b (sym same)))
+      (⊎_elim (λ (z : from j < from k). m.apart (from j) (from k) z a same)
+      (λ (z : from k < from j). m.apart (from k) (from j) z b (sym same)))
       (cases_order (from j) (from k))
 
   pub filed-struck : Filed (bytes_of m) directory' (m.count - 1)

@@ -28,7 +28,8 @@ module _ (bytes : List ℕ) (page : ℕ) (template : List ℕ) (fits : page * 25
 
   above : (a m : ℕ) → a ≡ page * 256 + 256 + m → drop a written ≡ drop a bytes
   above a m e =
-      rw e (sym (drop-drop m (page * 256 + 256) written) ∙ ap (drop m) (drop-paste bytes (page * 256) template 256 (omega arith) (omega arith))
+      rw e (sym (drop-drop m (page * 256 + 256) written)
+      ∙ ap (drop m) (drop-paste bytes (page * 256) template 256 (omega arith) (omega arith))
       ∙ drop-drop m (page * 256 + 256) bytes)
 
   pub page-other : (j : ℕ) → (j ≡ page → ⊥) → page_bytes written j ≡ page_bytes bytes j

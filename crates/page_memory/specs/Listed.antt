@@ -25,10 +25,12 @@ module _ (m : PageMemory) where
     pub listed-length : length (map f (take m.count m.directory)) ≡ m.count
     listed-length = length-map (take m.count m.directory) f ∙ length-take-le m.count m.directory enough
 
-    pub listed_at : (k : ℕ) (d : X) → k < m.count → slice_index_or (map f (take m.count m.directory)) k d ≡ f (record_at m.directory k)
+    pub listed_at : (k : ℕ) (d : X) → k < m.count
+        → slice_index_or (map f (take m.count m.directory)) k d ≡ f (record_at m.directory k)
     listed_at k d h =
         let l = length-take-le m.count m.directory enough in
-        get_or-map f (take m.count m.directory) k blank d (omega arith) ∙ ap f (get_or-take m.count m.directory k blank h)
+        get_or-map f (take m.count m.directory) k blank d (omega arith)
+        ∙ ap f (get_or-take m.count m.directory k blank h)
 
   pub held-length : length (held_by m) ≡ m.count
   held-length = listed-length (held_of (bytes_of m))
@@ -42,4 +44,5 @@ module _ (m : PageMemory) where
       (λ k l. let n = held-length in let i : k < m.count = omega arith in let w = m.filed.2 k i in
       let c : k < room_of m = omega (arith, m.filed.1) in
       let page = (record_at m.directory k).page in
-      rw (listed_at (held_of (bytes_of m)) k none i) (w.0, w.1, page-length (bytes_of m) page (page-fits (bytes_of m) page (m.inside k c))))
+      rw (listed_at (held_of (bytes_of m)) k none i)
+      (w.0, w.1, page-length (bytes_of m) page (page-fits (bytes_of m) page (m.inside k c))))

@@ -1,5 +1,5 @@
--- Pages of 256 bytes, and a directory of 64 records: the first of them are the templates in their order, each with its page,
--- and the next ones, up to the capacity, name the free pages.
+-- Pages of 256 bytes, and a directory of 64 records: the first of them are the templates in their order, each with its
+-- page, and the next ones, up to the capacity, name the free pages.
 use Rattle.std.specs.Prelude.{◌≡◌, ℕ, ◌*◌, ◌/◌, ◌^◌, ◌<◌, ◌≤◌, min, List, [], ◌∷◌, ◌++◌, map, length, take, drop}
 use Rattle.std.specs.Prelude.{Result, MatchResult, ◌≢◌, slice_index_or}
 use Rattle.std.specs.List.{ContainsAt as Has}
@@ -36,7 +36,8 @@ pages_in directory count = map (λ r. r.page) (take count directory)
 -- there is a record for each template, which has an ID
 abbrev pub Filed : List ℕ → List Record → ℕ → Type 0
 Filed bytes directory count =
-    (length directory ≡ 64) × (count ≤ capacity_of bytes) × ((k : ℕ) → k < count → (0 < (record_at directory k).id) × ((record_at directory k).id < 2 ^ 16))
+    (length directory ≡ 64) × (count ≤ capacity_of bytes)
+    × ((k : ℕ) → k < count → (0 < (record_at directory k).id) × ((record_at directory k).id < 2 ^ 16))
 
 -- the pages up to the capacity are the chip's
 abbrev pub Inside : List ℕ → List Record → Type 0

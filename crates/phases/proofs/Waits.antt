@@ -1,5 +1,6 @@
 -- A request waits, and a finger comes, or a second passes.
-use Rattle.std.proofs.Common.{◌≡◌, ℕ, ◌≤◌, cond, not, ◌||◌, eqb, ltb, Bool, true, false, List, [], ◌∷◌, length, Some, None, Ok, Option, refl, ap, ◌∙◌, arith}
+use Rattle.std.proofs.Common.{◌≡◌, ℕ, ◌≤◌, cond, not, ◌||◌, eqb, ltb, Bool, true, false, List, [], ◌∷◌, length, Some}
+use Rattle.std.proofs.Common.{None, Ok, Option, refl, ap, ◌∙◌, arith}
 use Rattle.codes.specs.declared.code.Code.{Code}
 use Rattle.codes.specs.declared.code.Code.TheVariants.{ScanFail, TimeOut, TryAgain}
 use Rattle.device.specs.View.{phase_of, view, waiting_of}

@@ -48,7 +48,9 @@ near_count stored scan = count_by (near_some (points_of stored)) (points_of scan
 
 -- the count from which on the answer is yes, for the strictness 0 to 14; the last one holds beyond
 abbrev pub needed : ℕ → ℕ
-needed strictness = slice_index_or (6 ∷ 7 ∷ 8 ∷ 9 ∷ 10 ∷ 11 ∷ 12 ∷ 14 ∷ 16 ∷ 18 ∷ 20 ∷ 23 ∷ 26 ∷ 29 ∷ 32 ∷ []) strictness 32
+needed strictness = slice_index_or (6 ∷ 7 ∷ 8 ∷ 9 ∷ 10 ∷ 11 ∷ 12 ∷ 14 ∷ 16 ∷ 18 ∷ 20 ∷ 23 ∷ 26 ∷ 29 ∷ 32 ∷ [])
+    strictness 32
 
 abbrev pub point_yes : List ℕ → List ℕ → ℕ → Bool
-point_yes stored scan strictness = readable stored && readable scan && nat_le (needed strictness) (near_count stored scan)
+point_yes stored scan strictness =
+    readable stored && readable scan && nat_le (needed strictness) (near_count stored scan)

@@ -1,5 +1,6 @@
 -- Two locked modules answer alike, whatever they are made of.
-use Rattle.std.proofs.Common.{◌≡◌, ℕ, Bool, true, false, cond, not, ◌&&◌, ◌||◌, eqb, ltb, List, [], ◌∷◌, ◌++◌, length, drop, None, Ok, Err, Option, Result, sym, refl, ap, ◌∙◌, subst}
+use Rattle.std.proofs.Common.{◌≡◌, ℕ, Bool, true, false, cond, not, ◌&&◌, ◌||◌, eqb, ltb, List, [], ◌∷◌, ◌++◌, length}
+use Rattle.std.proofs.Common.{drop, None, Ok, Err, Option, Result, sym, refl, ap, ◌∙◌, subst}
 use Rattle.codes.specs.Commands.{command_number}
 use Rattle.codes.specs.declared.code.Code.{Code}
 use Rattle.codes.specs.declared.code.Code.TheVariants.{Success, NotMatch, TryAgain, Unsupported, Locked}
@@ -111,7 +112,8 @@ module _ (a b : State) (k : Alike a b) where
 
   same-shown : (c : Call) → shown a c ≡ shown b c
   same-shown c =
-      let made : Result (List Outcome) Refusal → List ℕ → Shown = λ r w. record { answer = r; count = length w; out = w ++ drop (length w) c.out; work = work_after c } in
+      let made : Result (List Outcome) Refusal → List ℕ → Shown =
+      λ r w. record { answer = r; count = length w; out = w ++ drop (length w) c.out; work = work_after c } in
       let t = twin-call c in
       ap (λ r. made r (written_by a (step_of a c))) t.answer ∙ ap (made (answered (step_of b c))) t.bytes
 
@@ -120,7 +122,8 @@ alike a b k [] = refl
 alike a b k (c ∷ cs) =
     let t = twin-call a b k c in
     ap (λ x. x ∷ rest a (answered (step_of a c))) (same-shown a b k c)
-    ∙ ap (λ l. shown b c ∷ l) (ends (unlocks (answered (step_of a c))) refl (λ h. alike (next_of a (step_of a c)) (next_of b (step_of b c)) (t.next h) cs)
+    ∙ ap (λ l. shown b c ∷ l) (ends (unlocks (answered (step_of a c))) refl
+    (λ h. alike (next_of a (step_of a c)) (next_of b (step_of b c)) (t.next h) cs)
     ∙ ap (rest b) t.answer)
   where
     rest : State → Result (List Outcome) Refusal → List Shown

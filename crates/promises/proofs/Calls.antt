@@ -14,7 +14,8 @@ use Rattle.promises.proofs.Whole.{always-promised}
 pub begins : (agree : List ℕ → List ℕ → ℕ → Bool) (size room own : ℕ) → Run [] (fresh agree size room own)
 begins agree size room own = record { agree = agree; size = size; room = room; own = own; calls = []; noted = refl; led = refl }
 
-abbrev goes : (v : State) (c : Call) (e : Entry) (w : State) → e ≡ entry_of v c → w ≡ next_of v (step_of v c) → (x : List Entry) → Run x v → Run (e ∷ x) w
+abbrev goes : (v : State) (c : Call) (e : Entry) (w : State) → e ≡ entry_of v c → w ≡ next_of v (step_of v c)
+    → (x : List Entry) → Run x v → Run (e ∷ x) w
 goes v c e w noted led x r = record {
   agree = r.agree;
   size = r.size;

@@ -1,5 +1,7 @@
 -- A grant is earned: each CONTINUE came of a finger whose scan agreed with a template held under the ID that it names.
-use Rattle.std.proofs.Common.{◌≡◌, ℕ, zero, suc, ◌*◌, ◌<◌, max, Bool, true, false, not, ◌&&◌, ◌||◌, eqb, ltb, leb, List, [], ◌∷◌, map, length, is_some, Some, None, Ok, Err, Option, Result, sym, refl, ap, ◌∙◌, subst, inl, inr, arith}
+use Rattle.std.proofs.Common.{◌≡◌, ℕ, zero, suc, ◌*◌, ◌<◌, max, Bool, true, false, not, ◌&&◌, ◌||◌, eqb, ltb, leb, List}
+use Rattle.std.proofs.Common.{[], ◌∷◌, map, length, is_some, Some, None, Ok, Err, Option, Result, sym, refl, ap, ◌∙◌}
+use Rattle.std.proofs.Common.{subst, inl, inr, arith}
 use Rattle.codes.specs.Commands.{command_number}
 use Rattle.codes.specs.Flags.{flag_number, flags}
 use Rattle.codes.specs.Numbers.{case_of}
@@ -57,7 +59,8 @@ use Rattle.machine.specs.State.Phase.{
   person_to_identify,
   person_to_delete,
 }
-use Rattle.machine.specs.Waiting.{better, deleted, ended, first, goes_on, granted, identified, on_finger, on_second, pressed, scanned, second as second_scan, verified}
+use Rattle.machine.specs.Waiting.{better, deleted, ended, first, goes_on, granted, identified, on_finger, on_second}
+use Rattle.machine.specs.Waiting.{pressed, scanned, second as second_scan, verified}
 use Rattle.machine.specs.declared.enrollment.Enroller.{Enroller}
 use Rattle.machine.specs.declared.enrollment.Enroller.TheVariants.{Host, Administrator}
 use Rattle.machine.specs.declared.enrollment.Enrollment.{Enrollment}
@@ -104,7 +107,8 @@ module _ (s : State) (frame : List ℕ) (q : RequestParts) where
   one : (x : Step) → AllEarned s (packet frame) (map (λ y. y.outcome) x.said) → fixed x.next ≡ fixed s → P x
   one x a o = record { all = a; stays = o }
 
-  on-enroll : (by : Enroller) (missing : Bool) (needed : ℕ) (f : Enrollment → Step) → ((e : Enrollment) → P (f e)) → P (enroll s q by missing needed f)
+  on-enroll : (by : Enroller) (missing : Bool) (needed : ℕ) (f : Enrollment → Step) → ((e : Enrollment) → P (f e))
+      → P (enroll s q by missing needed f)
   on-enroll by missing needed f p =
       by-given P (case_of flag_number flags q.flag) _ _ (one (just s q Unsupported) (tt, tt) refl) (λ flag.
       by-given P (enroll_id s flag q.param) _ _ (one (just s q InvalidId) (tt, tt) refl) (λ id.
@@ -127,7 +131,8 @@ module _ (s : State) (frame : List ℕ) (q : RequestParts) where
       by-given P (setting_of p q.size) _ _ (one _ (tt, tt) refl) (λ _. one _ (tt, tt) refl))
   on-known ReadParameter = by-given P (case_of parameter_number parameters q.flag) _ _ (one _ (tt, tt) refl) (λ _. one _ (tt, tt) refl)
   on-known Enroll =
-      on-enroll Host false (templates_in s.settings.enroll) (λ e. wait_for s q (first_finger e)) (λ e. one (wait_for s q (first_finger e)) tt refl)
+      on-enroll Host false (templates_in s.settings.enroll) (λ e. wait_for s q (first_finger e))
+      (λ e. one (wait_for s q (first_finger e)) tt refl)
   on-known EnrollTemplate =
       by-test P (not (eqb q.size s.size)) _ _ (λ _. one _ (tt, tt) refl) (λ _. on-enroll Host false 1 (enroll_now s q) on-now)
   on-known Verify =
@@ -239,12 +244,15 @@ module _ (s : State) (w : Waiting) (x : List ℕ) (quality : ℕ) where
 on-finger : (s : State) (w : Option Waiting) (x : List ℕ) (quality : ℕ) → EarnedStep s (finger x quality) (on_finger s w x quality)
 on-finger s None x quality = record { all = tt; stays = refl }
 on-finger s (Some w) x quality =
-    by-test (EarnedStep s (finger x quality)) (not (eqb (length x) s.size) || ltb 100 quality) _ _ (λ _. record { all = (tt, tt); stays = refl }) (λ _.
-    by-test (EarnedStep s (finger x quality)) (ltb quality 30) _ _ (λ _. record { all = (tt, tt); stays = refl }) (λ _. on-pressed s w x quality w.phase))
+    by-test (EarnedStep s (finger x quality)) (not (eqb (length x) s.size) || ltb 100 quality) _ _
+    (λ _. record { all = (tt, tt); stays = refl }) (λ _.
+    by-test (EarnedStep s (finger x quality)) (ltb quality 30) _ _ (λ _. record { all = (tt, tt); stays = refl })
+    (λ _. on-pressed s w x quality w.phase))
 
 on-second : (s : State) (w : Option Waiting) → EarnedStep s second (on_second s w)
 on-second s None = record { all = tt; stays = refl }
-on-second s (Some w) = by-test (EarnedStep s second) (eqb w.left 1) _ _ (λ _. record { all = (tt, tt); stays = refl }) (λ _. record { all = tt; stays = refl })
+on-second s (Some w) = by-test (EarnedStep s second) (eqb w.left 1) _ _ (λ _. record { all = (tt, tt); stays = refl })
+    (λ _. record { all = tt; stays = refl })
 
 on-heard : (s : State) (frame : List ℕ) (r : Result RequestParts Refusal) → EarnedBy s (packet frame) (answered (heard s r))
 on-heard s frame (Ok q) = (on-requested s frame q).all

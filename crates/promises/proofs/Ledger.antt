@@ -1,5 +1,6 @@
 -- What one more outcome does to the ledger of grants. Nothing here knows the commands' work.
-use Rattle.std.proofs.Common.{◌≡◌, ℕ, suc, ◌+◌, ◌≤◌, Bool, true, false, cond, eqb, List, ◌∷◌, Some, None, Option, sym, refl, ap, ◌∙◌, subst, arith}
+use Rattle.std.proofs.Common.{◌≡◌, ℕ, suc, ◌+◌, ◌≤◌, Bool, true, false, cond, eqb, List, ◌∷◌, Some, None, Option, sym}
+use Rattle.std.proofs.Common.{refl, ap, ◌∙◌, subst, arith}
 use Rattle.codes.specs.declared.code.Code.{Code}
 use Rattle.codes.specs.declared.code.Code.TheVariants.{Success, ScanSuccess, Continue}
 use Rattle.codes.specs.declared.command.Command.{Command}
@@ -127,7 +128,8 @@ answers {n} {w} {ts} {x} l q o g u k c =
     }
 
 -- a packet begins to wait
-pub asks : {n : ℕ} {w : Owner} {ts : List Told} → Ledger n w ts None → (q : RequestParts) (x : Waiting) → q.command ≡ Known (command_of x.phase)
+pub asks : {n : ℕ} {w : Owner} {ts : List Told} → Ledger n w ts None → (q : RequestParts) (x : Waiting)
+    → q.command ≡ Known (command_of x.phase)
     → Detail q x.phase → holds_grant x.phase ≡ false → Ledger (suc n) (owner n q) ts (Some x)
 asks {n} {w} {ts} l q x c d a = record {
   fresh = λ p h. l.fresh p (omega arith);
@@ -284,7 +286,8 @@ fails {n} {ts} (owner p q) x param size code l e =
     let c : Coded Command = Known (command_of x.phase) in
     let g : grant_in (mark code) true ≡ 0 = ap (λ m. grant_in m true) e in
     let u : use_in (mark code) c true ≡ 0 = ap (λ m. use_in m c true) e in
-    let f : fail_in (mark code) (open_of p ts) ≡ one_if (holds_grant x.phase) = ap (λ m. fail_in m (open_of p ts)) e ∙ ap one_if h.stands.opened in
+    let f : fail_in (mark code) (open_of p ts) ≡ one_if (holds_grant x.phase) = ap (λ m. fail_in m (open_of p ts)) e
+    ∙ ap one_if h.stands.opened in
     let P : Mark → Type 0 = λ m. OnUse m c (grants_of p ts ≡ 1) in
     let Q : Mark → Type 0 = λ m. OnUse m c (uses_of p ts ≡ 0) in
     record {

@@ -1,5 +1,6 @@
 -- Which outcomes each call adds to the ledger of grants.
-use Rattle.std.proofs.Common.{◌≡◌, ℕ, suc, ◌-◌, ◌*◌, max, Bool, true, false, cond, not, ◌&&◌, ◌||◌, eqb, ltb, leb, List, [], ◌∷◌, length, is_some, Some, None, Ok, Err, Option, Result, sym, refl, ap, ◌∙◌, subst}
+use Rattle.std.proofs.Common.{◌≡◌, ℕ, suc, ◌-◌, ◌*◌, max, Bool, true, false, cond, not, ◌&&◌, ◌||◌, eqb, ltb, leb, List}
+use Rattle.std.proofs.Common.{[], ◌∷◌, length, is_some, Some, None, Ok, Err, Option, Result, sym, refl, ap, ◌∙◌, subst}
 use Rattle.codes.specs.Commands.{command_number}
 use Rattle.codes.specs.Flags.{flag_number, flags}
 use Rattle.codes.specs.Numbers.{case_of}
@@ -59,7 +60,8 @@ use Rattle.machine.specs.Enrollment.{enroll_id, enrolled, looks_up}
 use Rattle.machine.specs.Ids.{is_id, range_of}
 use Rattle.machine.specs.Machine.{Call, Event, asked, heard, next_of, on_event, requested, step_of}
 use Rattle.machine.specs.Machine.Event.{packet, finger, second}
-use Rattle.machine.specs.Requests.{Wanted, enroll, enroll_now, known, level_in, levelled, parameter_value, password_at, started, sum_right, unlock, wait_for}
+use Rattle.machine.specs.Requests.{Wanted, enroll, enroll_now, known, level_in, levelled, parameter_value, password_at}
+use Rattle.machine.specs.Requests.{started, sum_right, unlock, wait_for}
 use Rattle.machine.specs.Requests.Wanted.{no_level, wanted}
 use Rattle.machine.specs.Searches.{agrees, any_agrees, found_by, found_in, found_one, without}
 use Rattle.machine.specs.Settings.{setting_of, templates_in}
@@ -112,7 +114,8 @@ pub record After (own n : ℕ) (w : Owner) (ts : List Told) (e : Event) (x : Ste
   pub ledger : Ledger (suc n) (waits own e (answered (Ok x)) n w) (tells own e n w (answered (Ok x)) ts) x.next.waiting
 
 -- a command that is one that needs no grant
-needs-none : (d : Command) (c : Coded Command) → needs_grant (Known d) ≡ false → known_among command_number (d ∷ []) c ≡ true → needs_grant c ≡ false
+needs-none : (d : Command) (c : Coded Command) → needs_grant (Known d) ≡ false
+    → known_among command_number (d ∷ []) c ≡ true → needs_grant c ≡ false
 needs-none d c g e = ap needs_grant (is-command d c e) ∙ g
 
 needs-by : (by : Enroller) → needs_grant (Known (enroll_command by)) ≡ by_grant by
@@ -147,7 +150,8 @@ module _ (own n : ℕ) (w : Owner) (ts : List Told) (s : State) (x : Waiting) (l
   module _ (phase : Phase) (c : command_of phase ≡ command_of x.phase) (d : (q : RequestParts) → Detail q x.phase → Detail q phase)
       (a : holds_grant x.phase ≡ false) (b : (q : RequestParts) → Detail q x.phase → holds_grant phase ≡ true) where
     on-continued : (v : Switch) (t : State) (left param : ℕ)
-        → Pressed (go (awaiting t (Some (record { form = x.form; phase = phase; left = left }))) (scanned v x (tell x param 0 Continue ∷ [])))
+        → Pressed (go (awaiting t (Some (record { form = x.form; phase = phase; left = left })))
+        (scanned v x (tell x param 0 Continue ∷ [])))
     on-continued Off t left param =
         record { ledger = tick (continues w x (record { form = x.form; phase = phase; left = left }) param 0 l c d a b) }
     on-continued On t left param =
@@ -178,11 +182,13 @@ module _ (own n : ℕ) (w : Owner) (ts : List Told) (s : State) (x : Waiting) (l
     on-second-scan Twice one q1 two q2 = on-done (better one q1 two q2 ∷ []) (max q1 q2)
     on-second-scan TwoTemplates one q1 two q2 = on-done (one ∷ two ∷ []) (max q1 q2)
 
-  on-verified : holds_grant x.phase ≡ false → needs_grant (Known (command_of x.phase)) ≡ false → (o : Option (ℕ × ℕ)) → Pressed (verified s x o)
+  on-verified : holds_grant x.phase ≡ false → needs_grant (Known (command_of x.phase)) ≡ false → (o : Option (ℕ × ℕ))
+      → Pressed (verified s x o)
   on-verified a g None = on-failed NotMatch refl
   on-verified a g (Some z) = on-ended s z.0 z.1 false a g
 
-  on-identified : holds_grant x.phase ≡ false → needs_grant (Known (command_of x.phase)) ≡ false → (o : Option (ℕ × ℕ)) → Pressed (identified s x o)
+  on-identified : holds_grant x.phase ≡ false → needs_grant (Known (command_of x.phase)) ≡ false → (o : Option (ℕ × ℕ))
+      → Pressed (identified s x o)
   on-identified a g None = on-failed NotFound refl
   on-identified a g (Some z) = on-ended s z.0 z.1 false a g
 
@@ -203,7 +209,8 @@ module _ (own n : ℕ) (w : Owner) (ts : List Told) (s : State) (x : Waiting) (l
       on-granted (first_finger e) (sym (ap command_of k)) (λ q d. (moved q x.phase (grant_to_enroll e) k d).1) (ap holds_grant k)
       (λ q d. ap by_grant (moved q x.phase (grant_to_enroll e) k d).0) (found_by s (is_admin may_enroll s.admins) scan)
   on-pressed (grant_to_delete range) k =
-      on-granted (person_to_delete range) (sym (ap command_of k)) (λ q d. tt) (ap holds_grant k) (λ q d. refl) (found_by s (is_admin may_delete s.admins) scan)
+      on-granted (person_to_delete range) (sym (ap command_of k)) (λ q d. tt) (ap holds_grant k) (λ q d. refl)
+      (found_by s (is_admin may_delete s.admins) scan)
   on-pressed (first_finger e) k =
       by-test Pressed (looks_up e.flag && any_agrees s scan) _ _ (λ _. on-failed ExistFinger refl)
       (λ _. on-first e (ap holds_grant k) (ap command_of k) s.settings.enroll (λ q d. moved q x.phase (first_finger e) k d))
@@ -220,7 +227,8 @@ module _ (own n : ℕ) (w : Owner) (ts : List Told) (frame : List ℕ) (q : Requ
   Heard st = After own n w ts (packet frame) st
 
   -- its own outcome is a failure, or a SUCCESS that needs no grant
-  fails-at-once : (x : Option Waiting) → Ledger n w ts x → (param size : ℕ) (code : Code) → is_code Canceled code ≡ false → mark code ≡ failure
+  fails-at-once : (x : Option Waiting) → Ledger n w ts x → (param size : ℕ) (code : Code)
+      → is_code Canceled code ≡ false → mark code ≡ failure
       → Ledger (suc n) w (note (belongs own (packet frame) code n w) (outcome q.command param size code) ∷ ts) x
   fails-at-once x l param size code c f =
       let P : Owner → Type 0 = λ v. Ledger (suc n) w (note v (outcome q.command param size code) ∷ ts) x in
@@ -245,7 +253,8 @@ module _ (own n : ℕ) (w : Owner) (ts : List Told) (frame : List ℕ) (q : Requ
     good : (t : State) → t.waiting ≡ s.waiting → needs_grant q.command ≡ false → (param size : ℕ) (bs : List ℕ)
         → Heard (go t (answer_data q param size Success bs))
     good t e g param size bs =
-        let P : Option Waiting → Type 0 = λ x. Ledger (suc n) w (note (packet_at own n frame) (outcome q.command param size Success) ∷ ts) x in
+        let P : Option Waiting → Type 0 =
+        λ x. Ledger (suc n) w (note (packet_at own n frame) (outcome q.command param size Success) ∷ ts) x in
         record { ledger = subst P (sym e) (succeeds-at-once ts s.waiting l param size g) }
 
     on-unlock : needs_grant q.command ≡ false → Heard (unlock s q)
@@ -256,7 +265,8 @@ module _ (own n : ℕ) (w : Owner) (ts : List Told) (frame : List ℕ) (q : Requ
 
     -- nothing waits
     module _ (i : Ledger n w ts None) where
-      begins : (phase : Phase) → q.command ≡ Known (command_of phase) → Detail q phase → holds_grant phase ≡ false → Heard (wait_for s q phase)
+      begins : (phase : Phase) → q.command ≡ Known (command_of phase) → Detail q phase → holds_grant phase ≡ false
+          → Heard (wait_for s q phase)
       begins phase c d a =
           let x : Waiting = record { form = q.form; phase = phase; left = s.settings.timeout } in
           let P : Owner → Type 0 = λ v. Ledger (suc n) v ts (Some x) in
@@ -308,7 +318,8 @@ module _ (own n : ℕ) (w : Owner) (ts : List Told) (frame : List ℕ) (q : Requ
           (λ place. good s refl (ap needs_grant k) 0 s.size (held_at s.held place).template))
       on-known Delete k =
           by-test Heard (not (is_id q.param)) _ _ (λ _. bad InvalidId refl refl)
-          (λ _. by-test Heard (eqb (count_of q.param s.held) 0) _ _ (λ _. bad NotFound refl refl) (λ _. good _ refl (ap needs_grant k) 0 0 []))
+          (λ _. by-test Heard (eqb (count_of q.param s.held) 0) _ _ (λ _. bad NotFound refl refl)
+          (λ _. good _ refl (ap needs_grant k) 0 0 []))
       on-known DeleteAll k = good _ refl (ap needs_grant k) 0 0 []
       on-known ListTemplates k =
           by-test Heard (not (eqb q.size 0) && leb (length s.held) (q.param * q.size)) _ _ (λ _. bad InvalidId refl refl)
@@ -319,17 +330,20 @@ module _ (own n : ℕ) (w : Owner) (ts : List Told) (frame : List ℕ) (q : Requ
           by-test Heard (not (is_id q.param)) _ _ (λ _. bad InvalidId refl refl) (λ _.
           by-test Heard (eqb (count_of q.param s.held) 0) _ _ (λ _. bad NotFound refl refl) (λ _. on-levelled (ap needs_grant k) v)))
       on-known EnrollByAdministrator k =
-          on-enroll Administrator (not (any_admin may_enroll s.admins)) (templates_in s.settings.enroll) (λ e. wait_for s q (grant_to_enroll e))
+          on-enroll Administrator (not (any_admin may_enroll s.admins)) (templates_in s.settings.enroll)
+          (λ e. wait_for s q (grant_to_enroll e))
           (λ e by h. begins (grant_to_enroll e) (k ∙ ap (λ y. Known (enroll_command y)) (sym by)) (by, h) refl)
       on-known DeleteByAdministrator k =
           by-given Heard (range_of q.param) _ _ (bad InvalidId refl refl) (λ range.
-          by-test Heard (not (any_admin may_delete s.admins)) _ _ (λ _. bad Unsupported refl refl) (λ _. begins (grant_to_delete range) k tt refl))
+          by-test Heard (not (any_admin may_delete s.admins)) _ _ (λ _. bad Unsupported refl refl)
+          (λ _. begins (grant_to_delete range) k tt refl))
       on-known Unlock k = on-unlock (ap needs_grant k)
       on-known Lock k = good _ refl (ap needs_grant k) 0 0 []
       on-known ChangePassword k =
           by-test Heard (not (eqb q.size 36)) _ _ (λ _. bad Unsupported refl refl) (λ _.
           by-test Heard (not (sum_right 0 q.«data» && sum_right 18 q.«data»)) _ _ (λ _. bad TryAgain refl refl) (λ _.
-          by-test Heard (bytes_eq (password_at 0 q.«data») s.password) _ _ (λ _. good _ refl (ap needs_grant k) 0 0 []) (λ _. bad NotMatch refl refl)))
+          by-test Heard (bytes_eq (password_at 0 q.«data») s.password) _ _ (λ _. good _ refl (ap needs_grant k) 0 0 [])
+          (λ _. bad NotMatch refl refl)))
 
       on-started : (c : Coded Command) → q.command ≡ c → Heard (started s q c)
       on-started (Known c) k = on-known c k
@@ -341,7 +355,8 @@ module _ (own n : ℕ) (w : Owner) (ts : List Told) (frame : List ℕ) (q : Requ
         by-test Heard (known_among command_number (Cancel ∷ []) q.command) _ _
         (λ e. record {
           ledger =
-              succeeds-at-once (note w (says x 0 0 Canceled) ∷ ts) None (fails w x 0 0 Canceled i refl) 0 0 (needs-none Cancel q.command refl e);
+              succeeds-at-once (note w (says x 0 0 Canceled) ∷ ts) None (fails w x 0 0 Canceled i refl) 0 0
+              (needs-none Cancel q.command refl e);
         })
         (λ _. bad Busy refl refl)
 
@@ -371,7 +386,8 @@ module _ (own n : ℕ) (w : Owner) (ts : List Told) (s : State) (mine : own ≡ 
       (on-requested own n w ts frame q (packet-there s.settings.network own n frame q read) s l sound).ledger
   on-heard frame (Err r) e = on-refused (packet frame) r
 
-  on-finger : (scan : List ℕ) (quality : ℕ) (x : Option Waiting) → Ledger n w ts x → After own n w ts (finger scan quality) (on_finger s x scan quality)
+  on-finger : (scan : List ℕ) (quality : ℕ) (x : Option Waiting) → Ledger n w ts x
+      → After own n w ts (finger scan quality) (on_finger s x scan quality)
   on-finger scan quality None i = record { ledger = tick l }
   on-finger scan quality (Some x) i =
       by-test (After own n w ts (finger scan quality)) (not (eqb (length scan) s.size) || ltb 100 quality) _ _
@@ -397,5 +413,6 @@ module _ (own n : ℕ) (w : Owner) (ts : List Told) (s : State) (mine : own ≡ 
       (λ _. by-test (Stepped c.event) (ltb (length c.work) 384) _ _ (λ _. on-refused c.event WorkBuffer) (λ _. on-event c.event))
 
 pub ledger-step : (own n : ℕ) (w : Owner) (ts : List Told) (s : State) → own ≡ s.own → Sound s → Ledger n w ts s.waiting → (c : Call)
-    → Ledger (suc n) (waits own c.event (answered (step_of s c)) n w) (tells own c.event n w (answered (step_of s c)) ts) (next_of s (step_of s c)).waiting
+    → Ledger (suc n) (waits own c.event (answered (step_of s c)) n w)
+    (tells own c.event n w (answered (step_of s c)) ts) (next_of s (step_of s c)).waiting
 ledger-step own n w ts s mine sound l c = on_call own n w ts s mine sound l c

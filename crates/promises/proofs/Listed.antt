@@ -1,5 +1,7 @@
 -- Held templates and administrators' rows, against the tally's list of IDs.
-use Rattle.std.proofs.Common.{◌≡◌, ℕ, suc, ◌+◌, ◌-◌, ◌<◌, ◌≤◌, Bool, true, false, cond, not, ◌&&◌, ◌||◌, eqb, ltb, List, [], ◌∷◌, ◌++◌, map, length, replicate, is_some, Some, None, count_by, Option, sym, refl, ap, ◌∙◌, arith}
+use Rattle.std.proofs.Common.{◌≡◌, ℕ, suc, ◌+◌, ◌-◌, ◌<◌, ◌≤◌, Bool, true, false, cond, not, ◌&&◌, ◌||◌, eqb, ltb, List}
+use Rattle.std.proofs.Common.{[], ◌∷◌, ◌++◌, map, length, replicate, is_some, Some, None, count_by, Option, sym, refl}
+use Rattle.std.proofs.Common.{ap, ◌∙◌, arith}
 use Rattle.codes.specs.Flags.{flag_number}
 use Rattle.codes.specs.Numbers.{case_of}
 use Rattle.codes.specs.declared.flag.EnrollFlag.{EnrollFlag}
@@ -62,7 +64,8 @@ pub has_kept : (id i : ℕ) → eqb id i ≡ false → (xs : List ℕ) → has i
 has_kept id i n [] = refl
 has_kept id i n (x ∷ xs) = at (eqb x id) refl (has_kept id i n xs)
   where
-    at : (b : Bool) → eqb x id ≡ b → has i (strike id xs) ≡ has i xs → has i (cond b (strike id xs) (x ∷ strike id xs)) ≡ (eqb x i || has i xs)
+    at : (b : Bool) → eqb x id ≡ b → has i (strike id xs) ≡ has i xs
+        → has i (cond b (strike id xs) (x ∷ strike id xs)) ≡ (eqb x i || has i xs)
     at true e h = h ∙ ap (λ v. v || has i xs) (sym (via x id i e n))
     at false e h = ap (λ v. eqb x i || v) h
 
@@ -108,7 +111,8 @@ count-gone id (e ∷ h) = at (eqb e.id id) refl (count-gone id h)
   where
     at : (b : Bool) → eqb e.id id ≡ b → count_of id (without id h) ≡ 0 → count_of id (cond b (without id h) (e ∷ without id h)) ≡ 0
     at true q r = r
-    at false q r = let z : cond {A = ℕ} (eqb e.id id) 1 0 ≡ 0 = ap (λ v. cond {A = ℕ} v 1 0) q in omega (arith, count-cons id e (without id h))
+    at false q r = let z : cond {A = ℕ} (eqb e.id id) 1 0 ≡ 0 = ap (λ v. cond {A = ℕ} v 1 0) q in
+        omega (arith, count-cons id e (without id h))
 
 pub count_under : (id i : ℕ) (templates : List (List ℕ)) → count_of i (under id templates) ≡ cond (eqb id i) (length templates) 0
 count_under id i [] = at (eqb id i)
@@ -140,7 +144,8 @@ pub level-struck : (id : ℕ) (rows : List AdminRow) → level_of id (struck id 
 level-struck id [] = refl
 level-struck id (r ∷ rows) = at (eqb r.id id) refl (level-struck id rows)
   where
-    at : (b : Bool) → eqb r.id id ≡ b → level_of id (struck id rows) ≡ None → level_of id (cond b (struck id rows) (r ∷ struck id rows)) ≡ None
+    at : (b : Bool) → eqb r.id id ≡ b → level_of id (struck id rows) ≡ None
+        → level_of id (cond b (struck id rows) (r ∷ struck id rows)) ≡ None
     at true e h = h
     at false e h = ap (λ v. cond v (Some r.level) (level_of id (struck id rows))) e ∙ h
 
@@ -259,7 +264,12 @@ none_yet n needed l e = omega arith
 
 pub fits : (s : State) (flag : EnrollFlag) (param id needed : ℕ) → needed ≤ 2 → enroll_id s flag param ≡ Some id
     → enroll_fault s flag id needed ≡ None → Fits s.room s.held flag id needed
-fits s flag param id needed few i e = record { some_id = (tests-passed s flag param id needed i e).0; free = (tests-passed s flag param id needed i e).1; ten = at flag i p }
+fits s flag param id needed few i e =
+    record {
+      some_id = (tests-passed s flag param id needed i e).0;
+      free = (tests-passed s flag param id needed i e).1;
+      ten = at flag i p;
+    }
   where
     p : Passed (needs_none flag && not (eqb (count_of id s.held) 0)) (adds flag && ltb 10 (count_of id s.held + needed))
         (ltb (s.room - length s.held) needed)

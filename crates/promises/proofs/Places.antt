@@ -1,5 +1,6 @@
 -- From counts to places: each SUCCESS of ESA and DSA has one grant, and no two share one. Nothing here knows the machine.
-use Rattle.std.proofs.Common.{◌≡◌, ℕ, ◌+◌, ◌<◌, Bool, true, false, cond, eqb, List, [], ◌∷◌, length, sym, refl, ap, ◌∙◌, subst, inl, inr, arith}
+use Rattle.std.proofs.Common.{◌≡◌, ℕ, ◌+◌, ◌<◌, Bool, true, false, cond, eqb, List, [], ◌∷◌, length, sym, refl, ap, ◌∙◌}
+use Rattle.std.proofs.Common.{subst, inl, inr, arith}
 use Rattle.codes.specs.declared.command.Command.{Command}
 use Rattle.codes.specs.declared.numbered.Coded.{Coded}
 use Rattle.std.proofs.lemmas.Bool.Decides.{nat_tests}
@@ -67,7 +68,11 @@ only_one p (t ∷ ts) e = at (mark t.out.code) refl (is_of p t.of) refl e (only_
     at : (m : Mark) → mark t.out.code ≡ m → (b : Bool) → is_of p t.of ≡ b → grant_in m b + grants_of p ts ≡ 1
         → (grants_of p ts ≡ 1 → Only p ts) → Only p (t ∷ ts)
     at scan x b y c f = older (λ h k. let z : ◌≡◌ {A = ℕ} 0 1 = cc in omega arith) (f (omega arith))
-    at grant x true y c f = (length ts, inl (refl, y, x), λ i g. elim g [ inl a ↦ a.0 | inr b ↦ absurd (omega (arith, grant-counts p i ts b)) ])
+    at grant x true y c f = (
+      length ts,
+      inl (refl, y, x),
+      λ i g. elim g [ inl a ↦ a.0 | inr b ↦ absurd (omega (arith, grant-counts p i ts b)) ],
+    )
     at grant x false y c f = older (λ h k. let z : ◌≡◌ {A = ℕ} 0 1 = cc in omega arith) (f (omega arith))
     at success x b y c f = older (λ h k. let z : ◌≡◌ {A = ℕ} 0 1 = cc in omega arith) (f (omega arith))
     at failure x b y c f = older (λ h k. let z : ◌≡◌ {A = ℕ} 0 1 = cc in omega arith) (f (omega arith))

@@ -1,5 +1,7 @@
 -- What reading a frame gives; one that was accepted reads the same by the form that its start code shows.
-use Rattle.std.proofs.Common.{◌≡◌, ℕ, ◌+◌, ◌-◌, ◌<◌, Bool, true, false, cond, not, ◌&&◌, ◌||◌, eqb, ltb, List, [], length, get_or, take, drop, Ok, Err, Option, Result, sym, refl, ap, ◌∙◌, subst, ⊎_elim, arith}
+use Rattle.std.proofs.Common.{◌≡◌, ℕ, ◌+◌, ◌-◌, ◌<◌, Bool, true, false, cond, not, ◌&&◌, ◌||◌, eqb, ltb, List, []}
+use Rattle.std.proofs.Common.{length, get_or, take, drop, Ok, Err, Option, Result, sym, refl, ap, ◌∙◌, subst, ⊎_elim}
+use Rattle.std.proofs.Common.{arith}
 use Rattle.codes.specs.declared.network.NetworkMode.{NetworkMode}
 use Rattle.codes.specs.declared.network.NetworkMode.TheVariants.{Single, Network}
 use Rattle.codes.specs.declared.refusal.Refusal.{Refusal}
@@ -80,7 +82,8 @@ pub reads-data : (mode : NetworkMode) (own : ℕ) (xs : List ℕ) (q : RequestPa
 reads-data mode own xs q =
     by-frame (λ r. r ≡ Ok q → has_data q ≡ true) (refused TooShort q) (refused StartCode q) (refused EndCode q) (refused Checksum q)
     (refused Terminal q) (refused DataLength q)
-    (λ form n param size flag bs whole e. let P : RequestParts → Type 0 = λ p. has_data p ≡ true in subst P (same-request _ q e) whole) mode own xs
+    (λ form n param size flag bs whole e. let P : RequestParts → Type 0 = λ p. has_data p ≡ true in
+    subst P (same-request _ q e) whole) mode own xs
 
 -- a frame that passes the tests of a form begins with its start code; `k` is what comes after the tests, which keeps a refusal
 starts : {H R : Type 0} (k : Result H Refusal → Result R Refusal) → ((e : Refusal) → k (Err e) ≡ Err e)
@@ -103,7 +106,8 @@ starts {H} k keeps start n xs x q e =
     passed : Bool → Result H Refusal
     passed b = unless (flaw b (eqb (get_or xs (n - 1) 0) 0x0A) (eqb (get_or xs (n - 2) 0) (checksum_of (take (n - 2) xs)))) x
 
-pub mode-shows : (mode : NetworkMode) (own : ℕ) (frame : List ℕ) (q : RequestParts) → read_request mode own frame ≡ Ok q → mode_of frame ≡ mode
+pub mode-shows : (mode : NetworkMode) (own : ℕ) (frame : List ℕ) (q : RequestParts) → read_request mode own frame ≡ Ok q
+    → mode_of frame ≡ mode
 mode-shows Single own frame q e =
     let x : get_or frame 0 0 ≡ 0x40 = starts (request_of own) (λ _. refl) 0x40 13 frame _ q e in
     ap (λ b. cond b Network Single) (ap (λ n. eqb n 0x41) x)

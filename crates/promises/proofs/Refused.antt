@@ -17,7 +17,8 @@ Clears (Err e) = (work : List ℕ) → work_left e work ≡ cleared work
 
 frame-clears : (mode : NetworkMode) (own : ℕ) (xs : List ℕ) → Clears (read_request mode own xs)
 frame-clears mode own xs =
-    by-frame Clears (λ _. refl) (λ _. refl) (λ _. refl) (λ _. refl) (λ _. refl) (λ _. refl) (λ form n param size flag bs whole. tt) mode own xs
+    by-frame Clears (λ _. refl) (λ _. refl) (λ _. refl) (λ _. refl) (λ _. refl) (λ _. refl)
+    (λ form n param size flag bs whole. tt) mode own xs
 
 heard-clears : (s : State) (r : Result RequestParts Refusal) → Clears r → Clears (heard s r)
 heard-clears s (Ok q) c = tt

@@ -1,5 +1,7 @@
 -- What a call says names a command that was read, and has the data that belongs to it; so its bytes read back.
-use Rattle.std.proofs.Common.{◌≡◌, ℕ, ◌+◌, ◌-◌, ◌*◌, ◌<◌, max, Bool, true, false, cond, not, ◌&&◌, ◌||◌, eqb, ltb, leb, List, [], ◌∷◌, length, is_some, Some, None, Ok, Err, Option, Result, sym, refl, ap, ◌∙◌, subst, arith}
+use Rattle.std.proofs.Common.{◌≡◌, ℕ, ◌+◌, ◌-◌, ◌*◌, ◌<◌, max, Bool, true, false, cond, not, ◌&&◌, ◌||◌, eqb, ltb, leb}
+use Rattle.std.proofs.Common.{List, [], ◌∷◌, length, is_some, Some, None, Ok, Err, Option, Result, sym, refl, ap, ◌∙◌}
+use Rattle.std.proofs.Common.{subst, arith}
 use Rattle.codes.proofs.Back.{byte-back}
 use Rattle.codes.proofs.Known.{known-command}
 use Rattle.codes.specs.Codes.{code_number}
@@ -66,7 +68,8 @@ use Rattle.machine.specs.Enrollment.{enroll_fault, enroll_id, looks_up}
 use Rattle.machine.specs.Ids.{is_id, range_of}
 use Rattle.machine.specs.Machine.{Call, Event, asked, heard, on_event, requested, step_of}
 use Rattle.machine.specs.Machine.Event.{packet, finger, second}
-use Rattle.machine.specs.Requests.{Wanted, enroll, enroll_now, known, level_in, levelled, parameter_value, password_at, started, sum_right, wait_for}
+use Rattle.machine.specs.Requests.{Wanted, enroll, enroll_now, known, level_in, levelled, parameter_value, password_at}
+use Rattle.machine.specs.Requests.{started, sum_right, wait_for}
 use Rattle.machine.specs.Requests.Wanted.{no_level, wanted}
 use Rattle.machine.specs.Searches.{agrees, any_agrees, found_by, found_in, found_one}
 use Rattle.machine.specs.Settings.{setting_of, templates_in}
@@ -80,7 +83,8 @@ use Rattle.machine.specs.State.Phase.{
   person_to_identify,
   person_to_delete,
 }
-use Rattle.machine.specs.Waiting.{deleted, first, granted, identified, on_finger, on_second, pressed, scanned, second as second_scan, verified}
+use Rattle.machine.specs.Waiting.{deleted, first, granted, identified, on_finger, on_second, pressed, scanned}
+use Rattle.machine.specs.Waiting.{second as second_scan, verified}
 use Rattle.machine.specs.declared.enrollment.Enroller.{Enroller}
 use Rattle.machine.specs.declared.enrollment.Enroller.TheVariants.{Host, Administrator}
 use Rattle.machine.specs.declared.enrollment.Enrollment.{Enrollment}
@@ -200,7 +204,8 @@ place_inside from id number [] place e = some-none place e
 place_inside from id number (x ∷ h) place e =
     at (eqb x.id id) (eqb number 0) e (place_inside (from + 1) id (number - 1) h place) (place_inside (from + 1) id number h place)
   where
-    at : (a b : Bool) → cond a (cond b (Some from) (place_from (from + 1) id (number - 1) h)) (place_from (from + 1) id number h) ≡ Some place
+    at : (a b : Bool) → cond a (cond b (Some from) (place_from (from + 1) id (number - 1) h))
+        (place_from (from + 1) id number h) ≡ Some place
         → (place_from (from + 1) id (number - 1) h ≡ Some place → place < from + 1 + length h)
         → (place_from (from + 1) id number h ≡ Some place → place < from + 1 + length h) → place < from + length (x ∷ h)
     at true true e f g = let z : from ≡ place = cc in omega arith
@@ -221,7 +226,15 @@ module _ (s : State) (sound : AllByRecursion (Sound s.size) s.held) (q : Request
   carrying : (c : Command) → q.command ≡ Known c → answers_with_data (Known c) (Known Success) ≡ true → (param size : ℕ) (bs : List ℕ)
       → length bs ≡ size → Proper (go s (answer_data q param size Success bs))
   carrying c e d param size bs l =
-      record { all = (record { as_read = read; data_belongs = with-data _ size bs (ap (λ x. answers_with_data x (Known Success)) e ∙ d) l }, tt) }
+      record {
+        all = (
+          record {
+            as_read = read;
+            data_belongs = with-data _ size bs (ap (λ x. answers_with_data x (Known Success)) e ∙ d) l;
+          },
+          tt,
+        );
+      }
 
   on-enroll : (by : Enroller) (missing : Bool) (needed : ℕ) (f : Enrollment → Step) → ((e : Enrollment) → Proper (f e))
       → Proper (enroll s q by missing needed f)
@@ -319,7 +332,8 @@ CommandRead (Err e) = Unit {0}
 
 command-read : (mode : NetworkMode) (own : ℕ) (frame : List ℕ) → CommandRead (read_request mode own frame)
 command-read mode own frame =
-    by-frame CommandRead tt tt tt tt tt tt (λ form n param size flag bs whole. ap (coded command_number commands) (byte-back command_number commands n))
+    by-frame CommandRead tt tt tt tt tt tt
+    (λ form n param size flag bs whole. ap (coded command_number commands) (byte-back command_number commands n))
     mode own frame
 
 abbrev ProperIf : Result Step Refusal → Type 0

@@ -1,5 +1,6 @@
 -- A locked module awaits nothing.
-use Rattle.std.proofs.Common.{◌≡◌, ℕ, ◌*◌, Bool, true, false, not, ◌&&◌, ◌||◌, eqb, ltb, leb, List, [], ◌∷◌, length, is_some, Some, None, Ok, Err, Option, Result, sym, refl, ◌∙◌, subst}
+use Rattle.std.proofs.Common.{◌≡◌, ℕ, ◌*◌, Bool, true, false, not, ◌&&◌, ◌||◌, eqb, ltb, leb, List, [], ◌∷◌, length}
+use Rattle.std.proofs.Common.{is_some, Some, None, Ok, Err, Option, Result, sym, refl, ◌∙◌, subst}
 use Rattle.codes.specs.Commands.{command_number}
 use Rattle.codes.specs.Flags.{flag_number, flags}
 use Rattle.codes.specs.Numbers.{case_of}
@@ -80,7 +81,8 @@ module _ (s : State) (u : s.locked ≡ true → ⊥) where
         by-given SoundAfter (case_of flag_number flags q.flag) _ _ (calm (just s q Unsupported) refl) (λ flag.
         by-given SoundAfter (enroll_id s flag q.param) _ _ (calm (just s q InvalidId) refl) (λ id.
         by-test SoundAfter missing _ _ (λ _. calm (just s q Unsupported) refl) (λ _.
-        by-unless SoundAfter (enroll_fault s flag id needed) _ _ (λ k. calm (just s q k) refl) (p (record { id = id; flag = flag; by = by })))))
+        by-unless SoundAfter (enroll_fault s flag id needed) _ _ (λ k. calm (just s q k) refl)
+        (p (record { id = id; flag = flag; by = by })))))
 
     on-levelled : (l : Wanted) → SoundAfter (levelled s q l)
     on-levelled no_level = calm _ refl
@@ -97,7 +99,8 @@ module _ (s : State) (u : s.locked ≡ true → ⊥) where
         by-given SoundAfter (setting_of p q.size) _ _ (calm _ refl) (λ _. calm _ refl))
     on-known ReadParameter = by-given SoundAfter (case_of parameter_number parameters q.flag) _ _ (calm _ refl) (λ _. calm _ refl)
     on-known Enroll =
-        on-enroll Host false (templates_in s.settings.enroll) (λ e. wait_for s q (first_finger e)) (λ e. calm (wait_for s q (first_finger e)) refl)
+        on-enroll Host false (templates_in s.settings.enroll) (λ e. wait_for s q (first_finger e))
+        (λ e. calm (wait_for s q (first_finger e)) refl)
     on-known EnrollTemplate =
         by-test SoundAfter (not (eqb q.size s.size)) _ _ (λ _. calm _ refl) (λ _. on-enroll Host false 1 (enroll_now s q) on-now)
     on-known Verify =
@@ -119,7 +122,8 @@ module _ (s : State) (u : s.locked ≡ true → ⊥) where
         by-test SoundAfter (not (is_id q.param)) _ _ (λ _. calm _ refl) (λ _.
         by-test SoundAfter (eqb (count_of q.param s.held) 0) _ _ (λ _. calm _ refl) (λ _. on-levelled l)))
     on-known EnrollByAdministrator =
-        on-enroll Administrator (not (any_admin may_enroll s.admins)) (templates_in s.settings.enroll) (λ e. wait_for s q (grant_to_enroll e))
+        on-enroll Administrator (not (any_admin may_enroll s.admins)) (templates_in s.settings.enroll)
+        (λ e. wait_for s q (grant_to_enroll e))
         (λ e. calm (wait_for s q (grant_to_enroll e)) refl)
     on-known DeleteByAdministrator =
         by-given SoundAfter (range_of q.param) _ _ (calm _ refl) (λ _.
@@ -154,7 +158,8 @@ module _ (s : State) (u : s.locked ≡ true → ⊥) where
     on-first e Twice scan quality = calm _ refl
     on-first e TwoTemplates scan quality = calm _ refl
 
-    on-second-scan : (e : Enrollment) (m : EnrollMode) (one : List ℕ) (q1 : ℕ) (two : List ℕ) (q2 : ℕ) → SoundAfter (second_scan s w e m one q1 two q2)
+    on-second-scan : (e : Enrollment) (m : EnrollMode) (one : List ℕ) (q1 : ℕ) (two : List ℕ) (q2 : ℕ)
+        → SoundAfter (second_scan s w e m one q1 two q2)
     on-second-scan e Once one q1 two q2 = calm _ refl
     on-second-scan e Twice one q1 two q2 = calm _ refl
     on-second-scan e TwoTemplates one q1 two q2 = calm _ refl

@@ -1,5 +1,7 @@
 -- The tally is what is held, call by call.
-use Rattle.std.proofs.Common.{◌≡◌, ℕ, ◌+◌, ◌-◌, ◌*◌, ◌≤◌, max, Bool, true, false, cond, not, ◌&&◌, ◌||◌, eqb, ltb, leb, List, [], ◌∷◌, ◌++◌, map, length, replicate, is_some, Some, None, Ok, Err, count_by, Option, Result, sym, refl, ap, ◌∙◌, subst, arith}
+use Rattle.std.proofs.Common.{◌≡◌, ℕ, ◌+◌, ◌-◌, ◌*◌, ◌≤◌, max, Bool, true, false, cond, not, ◌&&◌, ◌||◌, eqb, ltb, leb}
+use Rattle.std.proofs.Common.{List, [], ◌∷◌, ◌++◌, map, length, replicate, is_some, Some, None, Ok, Err, count_by}
+use Rattle.std.proofs.Common.{Option, Result, sym, refl, ap, ◌∙◌, subst, arith}
 use Rattle.codes.specs.Commands.{command_number}
 use Rattle.codes.specs.Flags.{flag_number, flags}
 use Rattle.codes.specs.Numbers.{case_of}
@@ -64,7 +66,8 @@ use Rattle.machine.specs.Ids.{is_id, range_of}
 use Rattle.machine.specs.Machine.{Call, Event, asked, heard, next_of, on_event, requested, step_of}
 use Rattle.machine.specs.Machine.Event.{packet, finger, second}
 use Rattle.machine.specs.Ready.{CanEnroll, ReadyAt, ReadyIn}
-use Rattle.machine.specs.Requests.{Wanted, enroll, enroll_now, known, level_in, levelled, parameter_value, password_at, started, sum_right, wait_for}
+use Rattle.machine.specs.Requests.{Wanted, enroll, enroll_now, known, level_in, levelled, parameter_value, password_at}
+use Rattle.machine.specs.Requests.{started, sum_right, wait_for}
 use Rattle.machine.specs.Requests.Wanted.{no_level, wanted}
 use Rattle.machine.specs.Searches.{agrees, any_agrees, found_by, found_in, found_one, without}
 use Rattle.machine.specs.Settings.{set, setting_of, templates_in}
@@ -135,7 +138,10 @@ use Rattle.promises.specs.Record.{
 use Rattle.promises.specs.Record.Mark.{failure}
 use Rattle.promises.specs.Record.Owner.{nobody, owner}
 use Rattle.promises.specs.Runs.{answered}
-use Rattle.promises.proofs.Listed.{Allowed, Fits, Stay, case-number, clash, count-append, count-ids, count_under, count-without, either_way, fits, found-allowed, has_kept, has-neither, has-struck, has_there, ids, ids-under, ids-without, is-it, level-changed, level-changed-kept, level-kept, level-pushed, level-pushed-kept, level-struck, not_first, stay, under}
+use Rattle.promises.proofs.Listed.{Allowed, Fits, Stay, case-number, clash, count-append, count-ids, count_under}
+use Rattle.promises.proofs.Listed.{count-without, either_way, fits, found-allowed, has_kept, has-neither, has-struck}
+use Rattle.promises.proofs.Listed.{has_there, ids, ids-under, ids-without, is-it, level-changed, level-changed-kept}
+use Rattle.promises.proofs.Listed.{level-kept, level-pushed, level-pushed-kept, level-struck, not_first, stay, under}
 use Rattle.promises.proofs.Pending.{Detail, Pending, PendingAt}
 use Rattle.promises.proofs.Reading.{packet-there}
 use Rattle.promises.proofs.Ways.{by-fault, by-given, by-test, given-some, is-command, never}
@@ -217,7 +223,8 @@ quiet {ts} {s} k t c g =
       allowed_then = (g _, k.allowed_then);
     }
 
-fails : {ts : List Told} {s : State} → Kept ts s → (v : Owner) (o : Outcome) → mark o.code ≡ failure → Kept ((record { of = v; out = o }) ∷ ts) s
+fails : {ts : List Told} {s : State} → Kept ts s → (v : Owner) (o : Outcome) → mark o.code ≡ failure
+    → Kept ((record { of = v; out = o }) ∷ ts) s
 fails k v o m =
     quiet k (record { of = v; out = o }) (λ y. ap (λ z. counted z v o y) m)
     (λ P. let Q : Mark → Type 0 = λ z. OnGrant z P in subst Q (sym m) tt)
@@ -292,7 +299,8 @@ levelled-changed : {ts : List Told} {s : State} → Kept ts s → (id flag : ℕ
 levelled-changed {ts} {s} k id flag level l table here others h = record {
   listed = k.listed;
   level = λ i _. either_way (eqb id i)
-      (λ q. ap (λ b. cond b (level_wanted (level_in flag)) ((tally ts).level i)) q ∙ l ∙ sym here ∙ ap (λ z. level_of z table) (is-it id i q))
+      (λ q. ap (λ b. cond b (level_wanted (level_in flag)) ((tally ts).level i)) q ∙ l ∙ sym here
+      ∙ ap (λ z. level_of z table) (is-it id i q))
       (λ q. ap (λ b. cond b (level_wanted (level_in flag)) ((tally ts).level i)) q ∙ k.level i ∙ sym (others i q));
   settings = k.settings;
   rows = λ i g. either_way (eqb id i)
@@ -588,7 +596,14 @@ module _ (own n : ℕ) (v : Owner) (ts : List Told) (s : State) (k : Kept ts s) 
           (struck-changed k q.param) (free _ _ _)))
       on-known DeleteAll e =
           succeeds DeleteAll e (holding s [] []) 0 0 []
-          (record { listed = refl; level = λ i h. never h; settings = k.settings; rows = λ i h. refl; ten = λ i. omega arith; room = omega arith })
+          (record {
+            listed = refl;
+            level = λ i h. never h;
+            settings = k.settings;
+            rows = λ i h. refl;
+            ten = λ i. omega arith;
+            room = omega arith;
+          })
           (free _ _ _)
       on-known ListTemplates e =
           by-test B (not (eqb q.size 0) && leb (length s.held) (q.param * q.size)) _ _ (λ _. refuse InvalidId refl)

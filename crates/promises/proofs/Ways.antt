@@ -1,5 +1,6 @@
 -- The ways of a step: what holds on each holds of the step.
-use Rattle.std.proofs.Common.{◌≡◌, ℕ, ◌+◌, ◌-◌, Bool, true, false, cond, not, ◌&&◌, ◌||◌, eqb, ltb, [], ◌∷◌, length, Some, None, Option, sym, refl, ap, ◌∙◌, subst, arith}
+use Rattle.std.proofs.Common.{◌≡◌, ℕ, ◌+◌, ◌-◌, Bool, true, false, cond, not, ◌&&◌, ◌||◌, eqb, ltb, [], ◌∷◌, length}
+use Rattle.std.proofs.Common.{Some, None, Option, sym, refl, ap, ◌∙◌, subst, arith}
 use Rattle.codes.specs.Commands.{command_number, commands}
 use Rattle.codes.specs.Numbers.{case_of}
 use Rattle.std.proofs.lemmas.Bool.{eqb-true}
@@ -54,7 +55,8 @@ pub both_ways : {X : Type 0} (R : X → X → Type 0) (b : Bool) (x x' y y' : X)
 both_ways R true x x' y y' p q = p refl
 both_ways R false x x' y y' p q = q refl
 
-pub by-given : {X : Type 0} (P : Step → Type 0) (o : Option X) (other : Step) (f : X → Step) → P other → ((x : X) → P (f x)) → P (given o other f)
+pub by-given : {X : Type 0} (P : Step → Type 0) (o : Option X) (other : Step) (f : X → Step) → P other
+    → ((x : X) → P (f x)) → P (given o other f)
 by-given P None other f p q = p
 by-given P (Some x) other f p q = q x
 
@@ -64,7 +66,8 @@ pub given-some : {X : Type 0} (P : Step → Type 0) (o : Option X) (other : Step
 given-some P None other f p q = p
 given-some P (Some x) other f p q = q x refl
 
-pub by-unless : (P : Step → Type 0) (o : Option Code) (fail : Code → Step) (step : Step) → ((k : Code) → P (fail k)) → P step → P (unless o fail step)
+pub by-unless : (P : Step → Type 0) (o : Option Code) (fail : Code → Step) (step : Step) → ((k : Code) → P (fail k))
+    → P step → P (unless o fail step)
 by-unless P None fail step p q = q
 by-unless P (Some k) fail step p q = p k
 
@@ -107,7 +110,8 @@ or-false false e = never e
 
 pub is-command : (d : Command) (c : Coded Command) → known_among command_number (d ∷ []) c ≡ true → c ≡ Known d
 is-command d (Known c) e =
-    let k : command_number c ≡ command_number d = eqb-true (command_number c) (command_number d) (or-false (eqb (command_number c) (command_number d)) e) in
+    let k : command_number c ≡ command_number d =
+    eqb-true (command_number c) (command_number d) (or-false (eqb (command_number c) (command_number d)) e) in
     let z : Some c ≡ Some d = sym (own-number c) ∙ ap (case_of command_number commands) k ∙ own-number d in
     cc
 is-command d (Unknown n) e = never e

@@ -35,7 +35,9 @@ module _ (agree : List ℕ → List ℕ → ℕ → Bool) (size room own : ℕ) 
       ledger-step own (length (record_of made h)) (waiter own (record_of made h)) (outcomes h) (after made h) (sym (own-stays made h))
       (sound agree size room own h) (ledger h) c
 
-  balanced : (h : List Call) → grants (outcomes h) ≡ uses (outcomes h) + failed_ends (in_time (outcomes h)) + one_if (grant_held (after made h).waiting)
+  balanced : (h : List Call)
+      → grants (outcomes h) ≡ uses (outcomes h) + failed_ends (in_time (outcomes h))
+      + one_if (grant_held (after made h).waiting)
   balanced h = (ledger h).balance ∙ ap (λ n. uses (outcomes h) + n + one_if (grant_held (after made h).waiting)) (same_ends (outcomes h))
 
   kept : (h : List Call) → Kept (outcomes h) (after made h)

@@ -38,4 +38,5 @@ closed_first rows = paste rows 0 (drop 386 rows) (length rows - 386)
 
 -- the bytes once the counted rows past a place have moved down by one
 abbrev pub closed : List ℕ → ℕ → ℕ → List ℕ
-closed bytes count place = paste bytes (place * 386) (drop (place * 386 + 386) bytes) (count * 386 - (place * 386 + 386))
+closed bytes count place =
+    paste bytes (place * 386) (drop (place * 386 + 386) bytes) (count * 386 - (place * 386 + 386))

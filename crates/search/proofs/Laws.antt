@@ -1,5 +1,7 @@
 -- The searches answer what the laws say in words of places and IDs.
-use Rattle.std.proofs.Common.{◌≡◌, ℕ, zero, suc, ◌+◌, ◌<◌, ◌≤◌, Bool, true, false, cond, ◌&&◌, ◌||◌, eqb, leb, ◌≢◌, ◌⊎◌, List, [], ◌∷◌, ◌++◌, length, is_some, Some, None, Option, sym, refl, ap, ◌∙◌, subst, inl, inr, ⊎_elim, arith}
+use Rattle.std.proofs.Common.{◌≡◌, ℕ, zero, suc, ◌+◌, ◌<◌, ◌≤◌, Bool, true, false, cond, ◌&&◌, ◌||◌, eqb, leb, ◌≢◌, ◌⊎◌}
+use Rattle.std.proofs.Common.{List, [], ◌∷◌, ◌++◌, length, is_some, Some, None, Option, sym, refl, ap, ◌∙◌, subst, inl}
+use Rattle.std.proofs.Common.{inr, ⊎_elim, arith}
 use Rattle.std.proofs.lemmas.List.{append-nil, append_assoc, get_or_at, length-append, length_push, take_at}
 use Rattle.std.proofs.lemmas.List.Sums.{sum_by-cons}
 use Rattle.std.proofs.lemmas.Bool.{cases_lt, cases_eq, cases_Bool, eqb-true, eqb-false}
@@ -90,7 +92,8 @@ module _ (h : List Held) where
       ⊎_elim
       (λ (t : eqb (count_of id h) 0 ≡ true). inl (rw t (eqb-true (count_of id h) 0 t)))
       (λ (t : eqb (count_of id h) 0 ≡ false).
-      ⊎_elim (λ (z : count_of (free_from (id + 1) n h) h ≡ 0). inl (rw t z)) (λ (e : free_from (id + 1) n h ≡ id + 1 + n). inr (rw t (omega arith))) (free-or-last (id + 1) n))
+      ⊎_elim (λ (z : count_of (free_from (id + 1) n h) h ≡ 0). inl (rw t z))
+      (λ (e : free_from (id + 1) n h ≡ id + 1 + n). inr (rw t (omega arith))) (free-or-last (id + 1) n))
       (cases_Bool (eqb (count_of id h) 0))
 
 -- the templates of the IDs 1 to m, counted
@@ -121,7 +124,9 @@ spread-ge : (m : ℕ) (h : List Held) → ((k : ℕ) → 1 ≤ k → k ≤ m →
 spread-ge zero h all = omega arith
 spread-ge (suc m) h all =
     let rest = spread-ge m h (λ k l r. all k l (omega arith)) in
-    let one : 1 ≤ count_of (suc m) h = ⊎_elim (λ (e : count_of (suc m) h ≡ 0). absurd (all (suc m) (omega arith) (omega arith) e)) (λ (ne : count_of (suc m) h ≢ 0). omega arith) (cases_eq (count_of (suc m) h) 0) in
+    let one : 1 ≤ count_of (suc m) h =
+    ⊎_elim (λ (e : count_of (suc m) h ≡ 0). absurd (all (suc m) (omega arith) (omega arith) e))
+    (λ (ne : count_of (suc m) h ≢ 0). omega arith) (cases_eq (count_of (suc m) h) 0) in
     omega arith
 
 pub lowest-free : (h : List Held) → IsLowestFree h (lowest_free h)
@@ -159,6 +164,7 @@ module _ (agrees : List ℕ → Bool) where
       at true r = refl
       at false r = r
 
-  pub some-agrees : (room : Bool) (h : List Held) → is_some (cond room (oldest (passes (λ _. true) agrees) h) None) ≡ room && any_of (λ e. agrees e.template) h
+  pub some-agrees : (room : Bool) (h : List Held)
+      → is_some (cond room (oldest (passes (λ _. true) agrees) h) None) ≡ room && any_of (λ e. agrees e.template) h
   some-agrees true h = found-agrees [] h
   some-agrees false h = refl

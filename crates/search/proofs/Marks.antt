@@ -28,7 +28,8 @@ lowest-marked h marks long few marked n e =
     let rest = length-drop 1 marks in
     let all : take 501 (drop 1 marks) ≡ drop 1 marks = take_all 501 (drop 1 marks) (omega arith) in
     let first = prefix_len_is (λ (b : Bool). b) (drop 1 marks) (lowest_free h - 1) false (omega arith)
-    (λ k l. get_or-drop 1 marks k false ∙ marked (1 + k) (omega arith) ∙ ap not (ne_eqb _ 0 (low.lower (1 + k) (omega arith) (omega arith))))
+    (λ k l. get_or-drop 1 marks k false ∙ marked (1 + k) (omega arith)
+    ∙ ap not (ne_eqb _ 0 (low.lower (1 + k) (omega arith) (omega arith))))
     (λ _. get_or-drop 1 marks (lowest_free h - 1) false ∙ marked (1 + (lowest_free h - 1)) (omega arith)
     ∙ ap (has h) (omega arith) ∙ ap not (eq-eqb _ 0 low.free)) in
     let passed : n ≡ prefix_len (λ (b : Bool). b) (drop 1 marks) =

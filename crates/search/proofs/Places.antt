@@ -1,5 +1,7 @@
 -- The places at which an ID's templates stand, one by one, and the law of the one that is found.
-use Rattle.std.proofs.Common.{◌≡◌, ℕ, zero, suc, ◌+◌, ◌-◌, ◌<◌, ◌≤◌, Bool, true, false, cond, eqb, List, [], ◌∷◌, length, filter, slice_get, take, Some, None, Option, sym, refl, ap, ◌∙◌, subst, ⊎_elim, zero-add, arith}
+use Rattle.std.proofs.Common.{◌≡◌, ℕ, zero, suc, ◌+◌, ◌-◌, ◌<◌, ◌≤◌, Bool, true, false, cond, eqb, List, [], ◌∷◌}
+use Rattle.std.proofs.Common.{length, filter, slice_get, take, Some, None, Option, sym, refl, ap, ◌∙◌, subst, ⊎_elim}
+use Rattle.std.proofs.Common.{zero-add, arith}
 use Rattle.std.specs.List.{range_with_len}
 use Rattle.std.proofs.lemmas.Bool.{cases_Bool, eqb-true, lt-ltb, ne_eqb}
 use Rattle.std.proofs.lemmas.List.Sums.{sum_by-cons}
@@ -85,7 +87,8 @@ module _ (id : ℕ) where
           → Found from n (e ∷ h) (cond b (cond (eqb n 0) (Some from) (place_from (from + 1) id (n - 1) h)) (place_from (from + 1) id n h))
       by-test false t n f = behind from n n 0 e h _ (rw t refl) (omega arith) (f n)
       by-test true t zero f = (0, (omega arith, record { inside = omega arith; id_there = eqb-true e.id id t; older = refl }))
-      by-test true t (suc n) f = let z = ne_eqb (suc n) 0 (omega arith) in rw z (behind from (suc n - 1) (suc n) 1 e h _ (rw t refl) (omega arith) (f (suc n - 1)))
+      by-test true t (suc n) f = let z = ne_eqb (suc n) 0 (omega arith) in
+          rw z (behind from (suc n - 1) (suc n) 1 e h _ (rw t refl) (omega arith) (f (suc n - 1)))
 
 pub finds-numbered : (h : List Held) (id number : ℕ) (r : Option ℕ) → r ≡ place_of id number h → FindsNumbered h id number r
 finds-numbered h id number r e =

@@ -7,7 +7,8 @@ pub returns-in_err-byte_from-clause-value : goal.returns-in_err-byte_from-clause
 returns-in_err-byte_from-clause-value c =
     let p = err_from_is_err_and c.from_residual.result c.from_residual.ensures.1 in
     rw (p.1, p.2)
-    (stops c.args.digits.now _ _ c.loop-index.index _ _ c.as_chunks.ensures.front (omega arith) c.in_err-byte_from.ensures c.loop-index.invariant.read)
+    (stops c.args.digits.now _ _ c.loop-index.index _ _ c.as_chunks.ensures.front (omega arith)
+    c.in_err-byte_from.ensures c.loop-index.invariant.read)
 
 pub loop-index-preserved : goal.loop-index-preserved
 loop-index-preserved c = record {

@@ -16,4 +16,5 @@ pub returns-clause-reads : goal.returns-clause-reads
 returns-clause-reads c =
     let bs = c.args.bytes.now in
     reads-back (vec_items c.args.text.now) _ bs _ _ c.loop-b.b-index (search rules) c.reserve.ensures.items
-    (omega (arith, c.loop-b-test.false)) c.loop-b.invariant.0 (All-from_get_or (λ b. b < 256) bs 0 (λ i _. let fits = c.type_inv.bytes i in search rules))
+    (omega (arith, c.loop-b-test.false)) c.loop-b.invariant.0
+    (All-from_get_or (λ b. b < 256) bs 0 (λ i _. let fits = c.type_inv.bytes i in search rules))

@@ -10,7 +10,8 @@ pub write_data-length-requires : goal.write_data-length-requires
 write_data-length-requires g c =
     let m = c.args.memory.now in
     let law = g.met.S.Memory in
-    let few = short-data g.S.Memory.T (g.S.Memory.room m) (g.S.Memory.held m) c.args.data law.sized.1 (law.within m).0 (law.within m).1 (law.sound m) in
+    let few = short-data g.S.Memory.T (g.S.Memory.room m) (g.S.Memory.held m) c.args.data law.sized.1 (law.within m).0
+    (law.within m).1 (law.sound m) in
     let p = place c.args.own c.args.told.to c.args.told.outcome c.in-Some.at c.in-Some.ensures in
     let k = p.low in
     let n = ap length (take_rest c.args.out.now c.in-Some.at) ∙ length-drop c.in-Some.at c.args.out.now in
@@ -23,12 +24,14 @@ returns-in-Some g c =
     let own = c.args.own in
     let y = c.args.told in
     let bs = data_in (g.S.Memory.held m) c.args.data in
-    let few = short-data g.S.Memory.T (g.S.Memory.room m) (g.S.Memory.held m) c.args.data law.sized.1 (law.within m).0 (law.within m).1 (law.sound m) in
+    let few = short-data g.S.Memory.T (g.S.Memory.room m) (g.S.Memory.held m) c.args.data law.sized.1 (law.within m).0
+    (law.within m).1 (law.sound m) in
     let p = place own y.to y.outcome c.in-Some.at c.in-Some.ensures in
     let k = around own y.to y.outcome c.in-Some.at p c.args.out.now c.write_data-length.new.out bs c.write_data-length.result
     (omega (arith, few, p.low, c.requires)) c.write_data-length.ensures.count c.write_data-length.ensures.bytes _ _ _
     c.write_reply_around.ensures.count c.write_reply_around.ensures.bytes c.unwrap_or.ensures in
-    wrote own _ (bytes_in (reply_form own y.to) y.outcome bs) c.args.out.now _ _ (omega arith) (record { param_fits = omega arith; size_fits = omega arith }, tt)
+    wrote own _ (bytes_in (reply_form own y.to) y.outcome bs) c.args.out.now _ _ (omega arith)
+    (record { param_fits = omega arith; size_fits = omega arith }, tt)
     (append-nil _) k.0 k.1
 
 pub returns-in-None : goal.returns-in-None

@@ -17,5 +17,8 @@ returns-clause-value c =
 pub returns-clause-back : goal.returns-clause-back
 returns-clause-back c =
     let xs = c.args.frame.now in
-    back 0x41 13 _ xs (get_or xs 0 0 ∷ get_or xs 1 0 ∷ get_or xs 2 0 ∷ []) _ _ c.of.result (omega arith) c.checksum.ensures c.in_ok-no_flaw.ensures
-    c.of.ensures.value c.of.ensures.back (λ e. ap (λ b. b ∷ bytes16 c.number16.result) (sym e) ∙ ap (λ l. get_or xs 0 0 ∷ l) c.number16.ensures.back) refl
+    back 0x41 13 _ xs (get_or xs 0 0 ∷ get_or xs 1 0 ∷ get_or xs 2 0 ∷ []) _ _ c.of.result (omega arith)
+    c.checksum.ensures c.in_ok-no_flaw.ensures
+    c.of.ensures.value c.of.ensures.back
+    (λ e. ap (λ b. b ∷ bytes16 c.number16.result) (sym e) ∙ ap (λ l. get_or xs 0 0 ∷ l) c.number16.ensures.back)
+    refl

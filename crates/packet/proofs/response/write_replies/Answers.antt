@@ -11,7 +11,8 @@ returns-clause-reads c =
     let own = c.args.own in
     let y = c.args.first in
     let z = c.args.second in
-    λ h k. written-as (λ l. ReadAs l (sent own y ++ sent own z)) (reply_bytes own y ++ reply_bytes own z) c.args.out.now c.write_reply-2.new.out
+    λ h k. written-as (λ l. ReadAs l (sent own y ++ sent own z)) (reply_bytes own y ++ reply_bytes own z) c.args.out.now
+    c.write_reply-2.new.out
     (Some (c.in_ok-write_reply.field-0 + c.in_ok-behind.behind)) (grind (arith, common_steps)) (grind (arith, common_steps))
     (two-read own y z (record { own-fits = omega arith; param_fits = omega arith; size_fits = omega arith })
     (record { own-fits = omega arith; param_fits = omega arith; size_fits = omega arith }) h k)

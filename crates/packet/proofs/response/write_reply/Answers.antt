@@ -9,5 +9,6 @@ pub returns-clause-reads : goal.returns-clause-reads
 returns-clause-reads c =
     let own = c.args.own in
     let y = c.args.reply in
-    λ h. written-as (λ l. ReadAs l (sent own y)) (reply_bytes own y) c.args.out.now c.write.new.out c.write.result (search rules) (search rules)
+    λ h. written-as (λ l. ReadAs l (sent own y)) (reply_bytes own y) c.args.out.now c.write.new.out c.write.result
+    (search rules) (search rules)
     (one-read own y (record { own-fits = omega arith; param_fits = omega arith; size_fits = omega arith }) h)

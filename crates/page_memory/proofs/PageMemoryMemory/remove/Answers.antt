@@ -19,7 +19,8 @@ returns-clause-after c =
     let n = held-length m in
     let t = c.if-place-self.false in
     let e = strikes m c.args.place t c.strike.new.rows (m.count - 0) (omega arith) c.strike.ensures.after in
-    ap (λ d. held_in (bytes_of m) d (m.count - 1)) e ∙ one_less m c.args.place t (held_of (bytes_of m)) ∙ (remove-there (held_by m) c.args.place (omega arith)).1
+    ap (λ d. held_in (bytes_of m) d (m.count - 1)) e ∙ one_less m c.args.place t (held_of (bytes_of m))
+    ∙ (remove-there (held_by m) c.args.place (omega arith)).1
 
 pub returns-clause-pages : goal.returns-clause-pages
 returns-clause-pages c =

@@ -31,7 +31,9 @@ returns-clause-value g c =
     let long = c.if-request-T.false ∙ c.T.ensures in
     let new =
     c.enroll_one.ensures.after
-    ∙ enrolls-one s.size s.room s.held e.flag e.id c.in_ok-enrollment.ensures.possible.0 q.«data» c.in_ok-enrollment.ensures.possible.1 long in
+    ∙ enrolls-one s.size s.room s.held e.flag e.id c.in_ok-enrollment.ensures.possible.0 q.«data»
+    c.in_ok-enrollment.ensures.possible.1 long in
     fits s q _ _ c.if-request-T.false c.T.ensures
-    (enrolls s q e c.answer.result _ _ _ c.answer.ensures c.from.ensures c.enroll_one.ensures.room_same new (c.if-is_held.ensures.enough (omega arith))
+    (enrolls s q e c.answer.result _ _ _ c.answer.ensures c.from.ensures c.enroll_one.ensures.room_same new
+    (c.if-is_held.ensures.enough (omega arith))
     ∙ c.in_ok-enrollment.ensures.value (enroll_now s q))

@@ -7,4 +7,5 @@ pub returns : goal.returns
 returns c =
     let bs = c.args.bytes.now in
     let a = c.args.place * 386 in
-    ap (put_mid a (c.args.count * 386 - a) bs) c.close_first.ensures ∙ closed-within bs c.args.count c.args.place c.requires.place_lt_count c.requires.count_in_bounds
+    ap (put_mid a (c.args.count * 386 - a) bs) c.close_first.ensures
+    ∙ closed-within bs c.args.count c.args.place c.requires.place_lt_count c.requires.count_in_bounds

@@ -16,7 +16,8 @@ loop-k-preserved c =
     let at = block_at c.args.from (length c.args.into.now / 4) k h inside in
     let there = row-there c.args.bytes.now c.args.count (c.args.from + k) none (omega (arith, at.0, rows)) in
     one_more xs c.loop-k.into c.args.into.now c.copy_from_slice.new.self k c.read_id-id.result _ (4 * k) inside
-    (c.read_id-id.ensures ∙ ap (λ e. e.id) (sym there) ∙ sym at.1) (c.copy_from_slice.ensures.after ∙ c.to_le_bytes.ensures ∙ ap four c.from.ensures)
+    (c.read_id-id.ensures ∙ ap (λ e. e.id) (sym there) ∙ sym at.1)
+    (c.copy_from_slice.ensures.after ∙ c.to_le_bytes.ensures ∙ ap four c.from.ensures)
     (omega arith) (omega arith) c.loop-k.invariant
 
 pub returns-clause-value : goal.returns-clause-value

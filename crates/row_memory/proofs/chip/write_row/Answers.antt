@@ -16,5 +16,6 @@ side_by_side bs a xs ys id t fits e l f m =
 pub returns : goal.returns
 returns c =
     let id = c.args.id in
-    side_by_side c.args.bytes.now (c.args.place * 386) _ _ ((id % 256) ∷ (id / 256 % 256) ∷ []) c.args.template.now c.requires.place_in_bounds
+    side_by_side c.args.bytes.now (c.args.place * 386) _ _ ((id % 256) ∷ (id / 256 % 256) ∷ []) c.args.template.now
+    c.requires.place_in_bounds
     (c.copy_from_slice.ensures.after ∙ c.to_le_bytes.ensures) refl c.copy_from_slice-2.ensures.after c.requires.template_len

@@ -14,4 +14,5 @@ is-if_any may (Some l) P r f e = f l e
 pub returns : goal.returns
 returns c =
     rw (← c.level_of.ensures)
-    (is-if_any (permits c.args.self.now.right) c.level_of.result _ c.is_some_and.result (λ l k. search (rules, tests)) c.is_some_and.ensures)
+    (is-if_any (permits c.args.self.now.right) c.level_of.result _ c.is_some_and.result (λ l k. search (rules, tests))
+    c.is_some_and.ensures)

@@ -28,7 +28,8 @@ returns-in_err-answers g c =
     let R : Result Answer Refusal → Type 0 = λ a. Shows v k.event (step_of v k) a w k.out k.out in
     record {
       shows = subst R (sym (p.1 ∙ ap Err p.2))
-          (refused v k w (within v k c.requires.in_bounds c.requires.in_bounds_2) _ (c.in_err-answers.ensures (ready v c.args.self.now.reached)));
+          (refused v k w (within v k c.requires.in_bounds c.requires.in_bounds_2) _
+          (c.in_err-answers.ensures (ready v c.args.self.now.reached)));
       cleared = search rules;
     }
 

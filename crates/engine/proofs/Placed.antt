@@ -8,7 +8,8 @@ use Rattle.device.specs.declared.answers.Data.TheVariants.{Ids, Template}
 use Rattle.device.specs.declared.answers.Told.{Told}
 use Rattle.packet.specs.declared.response.Reply.{Reply}
 use Rattle.engine.specs.Wrote.{Wrote}
-use Rattle.memory.proofs.Blocks.{block-length}
+use Rattle.memory.proofs.Blocks.{block-length, length-fours}
+use Rattle.packet.specs.Numbers.{bytes32}
 use Rattle.machine.specs.Answers.{Said, bytes_of}
 use Rattle.memory.specs.Held.{Held, Sound, block_of, held_at, none}
 use Rattle.packet.specs.Around.{data_place, place_in, standing}
@@ -20,7 +21,7 @@ use Rattle.packet.specs.declared.form.Form.{Form}
 use Rattle.packet.specs.declared.form.Form.TheVariants.{Standard, Network}
 use Rattle.packet.specs.declared.response.Outcome.{Outcome}
 use Rattle.packet.proofs.Writes.{length-bare, length-packet, lent-on}
-use Rattle.promises.proofs.Sent.{length_ids, proper-reads}
+use Rattle.promises.proofs.Sent.{proper-reads}
 use Rattle.promises.specs.Sent.{FittingSaid, sent_of}
 use Rattle.std.specs.List.{AllByRecursion}
 use Rattle.std.proofs.ByRecursion.{All-get_or}
@@ -134,7 +135,7 @@ place own to o at e = by to (carries o) refl e
 pub short-data : (size room : ℕ) (h : List Held) (d : Data) → size ≤ 384 → length h ≤ room → room ≤ 500
     → AllByRecursion (Sound size) h → length (data_in h d) ≤ 2000
 short-data size room h (Ids from most) small l r sound =
-    omega (arith, length_ids (block_of from most h), block-length from most h)
+    omega (arith, length-fours bytes32 (λ _. refl) (block_of from most h), block-length from most h)
 short-data size room h (Template place) small l r sound =
     ⊎_elim
     (λ (t : place < length h). let w = All-get_or (Sound size) h place none t sound in omega (arith, w.2))

@@ -54,8 +54,8 @@ fn write_data<S: Memory>(memory: &S, data: Data, out: &mut [u8]) -> usize
     }
 }
 
-/// Writes a reply around data of the memory, which goes straight to its place in the buffer. LT and RT alone come
-/// here; out of line, it leaves the other calls short.
+/// Writes a reply around data of the memory, which goes straight to its place in the buffer. Only LT and RT have
+/// such data; out of line, the code for all other outcomes stays short.
 #[inline(never)]
 fn write_around<S: Memory>(memory: &S, own: u16, out: &mut [u8], told: Told, data: Data) -> usize
     requires { 2048 ≤ length out.old }

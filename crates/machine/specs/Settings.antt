@@ -50,7 +50,7 @@ abbrev pub network_number : NetworkMode → ℕ
 network_number Single = 0x30
 network_number Network = 0x31
 
--- a parameter with a value that it takes: Timeout from 0x30 to 0x44, the others by their cases; the rest cannot be set
+-- a parameter with a value that it takes: Timeout from 0x30 to 0x44, the others by their cases; the rest are only read
 abbrev pub setting_of : Parameter → ℕ → Option Setting
 setting_of Timeout v = cond (within 0x30 0x44 v) (Some (SetTimeout (v - 0x30))) None
 setting_of TemplateSize v = None

@@ -1,5 +1,5 @@
--- The definitions tried on two recorded runs of the module number 1, over 16 pages of 256 bytes and a matcher of equal
--- bytes.
+-- The definitions tried on two recorded runs of a module with the number 1, over 16 pages of 256 bytes and a matcher of
+-- equal bytes.
 use Rattle.std.specs.Prelude.{ℕ, List, [], ◌∷◌, ◌++◌, Ok, Err, codes, Result}
 use Rattle.digits.specs.Digits.{hex_bytes}
 use Rattle.digits.specs.declared.Fault.{Fault}

@@ -53,7 +53,8 @@ goes_on s w phase xs =
     go (awaiting s (Some (record { form = w.form; phase = phase; left = s.settings.timeout })))
     (scanned s.settings.scans w xs)
 
--- an administrator's finger: CONTINUE with the ID of the oldest template that agrees, under a level that allows it
+-- an administrator's finger: CONTINUE with the ID of the oldest template that agrees, among those whose level allows
+-- the request
 abbrev pub granted : State → Waiting → Phase → Option (ℕ × ℕ) → Step
 granted s w phase None = ended s w 0 0 NotMatch
 granted s w phase (Some x) = goes_on s w phase (tell w x.0 0 Continue ∷ [])

@@ -51,6 +51,7 @@ use Rattle.codes.specs.declared.network.NetworkMode.{NetworkMode}
 use Rattle.codes.specs.declared.numbered.Coded.{Coded}
 use Rattle.codes.specs.declared.numbered.Coded.TheVariants.{Known, Unknown}
 use Rattle.codes.specs.declared.refusal.Refusal.{Refusal}
+use Rattle.memory.proofs.Blocks.{length-fours}
 use Rattle.memory.specs.Held.{Held, Sound, held_at, none}
 use Rattle.packet.proofs.Trips.{read-in, reply-form-fits}
 use Rattle.packet.specs.Data.{answers_with_data, known_among}
@@ -60,7 +61,7 @@ use Rattle.packet.specs.Responses.{reply_form}
 use Rattle.packet.specs.Trips.{AsRead, Belongs}
 use Rattle.search.specs.Ids.{count_of, place_from, place_of}
 use Rattle.std.proofs.ByRecursion.{All-get_or}
-use Rattle.std.specs.List.{flat_map, AllByRecursion}
+use Rattle.std.specs.List.{AllByRecursion}
 use Rattle.std.specs.Str.{bytes_eq}
 use Rattle.machine.specs.Administrators.{any_admin, is_admin, level_of, may_delete, may_enroll}
 use Rattle.machine.specs.Answers.{Said, Step, answer_data, bytes_of, go, just, tell}
@@ -193,11 +194,6 @@ on-second : (s : State) (w : Option Waiting) → Proper (on_second s w)
 on-second s None = record { all = tt }
 on-second s (Some w) = by-test Proper (eqb w.left 1) _ _ (λ _. one_told _ w TimeOut) (λ _. record { all = tt })
 
--- four bytes for each ID
-pub length_ids : (ids : List ℕ) → length (flat_map bytes32 ids) ≡ 4 * length ids
-length_ids [] = refl
-length_ids (id ∷ ids) = omega (arith, length_ids ids)
-
 -- a template that is found by its number is held
 place_inside : (from id number : ℕ) (h : List Held) (place : ℕ) → place_from from id number h ≡ Some place → place < from + length h
 place_inside from id number [] place e = some-none place e
@@ -287,7 +283,7 @@ module _ (s : State) (sound : AllByRecursion (Sound s.size) s.held) (q : Request
   on-known DeleteAll k = plain _ 0 Success
   on-known ListTemplates k =
       by-test Proper (not (eqb q.size 0) && leb (length s.held) (q.param * q.size)) _ _ (λ _. fails InvalidId)
-      (λ _. carrying ListTemplates k refl _ _ _ (length_ids _))
+      (λ _. carrying ListTemplates k refl _ _ _ (length-fours bytes32 (λ _. refl) _))
   on-known Cancel k = fails NotFound
   on-known WriteLevel k =
       by-given Proper (level_in q.flag) _ _ (fails Unsupported) (λ l.

@@ -1,7 +1,7 @@
 //! The rows in a chip's bytes, one at a time.
 
 ghost use Rattle.std.specs.Prelude.{◌≡◌, ◌+◌, ◌*◌, ◌<◌, ◌≤◌, ◌++◌, length, drop};
-ghost use Rattle.memory.specs.Held.{ids_after, ids_for};
+ghost use Rattle.memory.specs.Held.{ids_after, fitting_ids};
 ghost use Rattle.row_memory.specs.Rows.{closed, closed_first, held_in, row_at, row_of, rows_in, written};
 
 use memory::LISTED_ID;
@@ -22,11 +22,11 @@ pub(crate) fn read_id(bytes: &[u8], place: usize) -> u16
 }
 
 /// Writes the IDs of the first `count` rows from a place on to the front of `into`, each in four bytes, low byte first:
-/// as many as there are, and as it has room for. Says how many. The rows and `into` are slices, so that LLVM takes
-/// several rows at a time where they do not overlap.
+/// as many as there are and as fit. Says how many. The rows and `into` are slices, so that LLVM takes several rows at a
+/// time where they do not overlap.
 pub(crate) fn write_ids(bytes: &[u8], count: usize, from: usize, into: &mut [u8]) -> usize
     requires { count * 386 ≤ length bytes.now }
-    ensures value { result ≡ length (ids_for (rows_in bytes.now count) from into.old) }
+    ensures value { result ≡ length (fitting_ids (rows_in bytes.now count) from into.old) }
     ensures after { into.new ≡ ids_after (rows_in bytes.now count) from into.old }
 {
     let number = count.saturating_sub(from).min(into.len() / LISTED_ID);

@@ -1,5 +1,5 @@
 use Rattle.std.proofs.Common.{◌+◌, ◌*◌, ◌/◌, ◌<◌, length, sym, ap, ◌∙◌, arith}
-use Rattle.memory.specs.Held.{ids_for, none}
+use Rattle.memory.specs.Held.{fitting_ids, none}
 use Rattle.memory.proofs.Blocks.{all_written, block_at, block-length, four, one_more}
 use Rattle.row_memory.specs.Rows.{rows_in}
 use Rattle.row_memory.specs.RowsLemmas.{row-there, rows_length}
@@ -9,10 +9,11 @@ pub loop-k-preserved : goal.loop-k-preserved
 loop-k-preserved c =
     let h = rows_in c.args.bytes.now c.args.count in
     let k = c.loop-k.k in
-    let xs = ids_for h c.args.from c.args.into.now in
+    let xs = fitting_ids h c.args.from c.args.into.now in
     let n = block-length c.args.from (length c.args.into.now / 4) h in
     let rows = rows_length c.args.bytes.now c.args.count in
-    let inside : k < length xs = omega (arith, n, rows, c.saturating_sub.ensures, c.min-number.ensures, c.loop-k-test.true) in
+    let inside : k < length xs =
+    omega (arith, n, rows, c.saturating_sub.ensures, c.min-number.ensures, c.loop-k-test.true) in
     let at = block_at c.args.from (length c.args.into.now / 4) k h inside in
     let there = row-there c.args.bytes.now c.args.count (c.args.from + k) none (omega (arith, at.0, rows)) in
     one_more xs c.loop-k.into c.args.into.now c.copy_from_slice.new.self k c.read_id-id.result _ (4 * k) inside
@@ -27,6 +28,7 @@ returns-clause-value c =
 
 pub returns-clause-after : goal.returns-clause-after
 returns-clause-after c =
-    let xs = ids_for (rows_in c.args.bytes.now c.args.count) c.args.from c.args.into.now in
+    let xs = fitting_ids (rows_in c.args.bytes.now c.args.count) c.args.from c.args.into.now in
     all_written xs c.loop-k.into c.args.into.now c.loop-k.k
-    (omega (arith, returns-clause-value c, c.min-number.ensures, c.loop-k-test.false, c.loop-k.auto.k-end)) c.loop-k.invariant
+    (omega (arith, returns-clause-value c, c.min-number.ensures, c.loop-k-test.false, c.loop-k.auto.k-end))
+    c.loop-k.invariant

@@ -7,7 +7,7 @@ use crate::table::Administrators;
 use search::Allowed;
 
 /// The IDs of the administrators who have a right.
-#[derive(Clone, Copy)]
+#[derive(Clone, Copy, Debug)]
 pub struct Permitted<'a> {
     pub table: &'a Administrators,
     pub right: Right,

@@ -10,7 +10,7 @@ use machine::AdminRow;
 pub(crate) const ROWS: usize = 16;
 
 /// The administrators, in the order in which they came. No ID has two of them.
-#[derive(Drop)]
+#[derive(Debug, Drop)]
 pub struct Administrators {
     pub(crate) rows: ArrayVec<AdminRow, ROWS>,
     ghost distinct: { apart rows.items ≡ true },

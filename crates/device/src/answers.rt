@@ -5,7 +5,7 @@ use codes::Code;
 use packet::{Form, Outcome, Request};
 
 /// An outcome, and the form of the packet that it belongs to.
-#[derive(Clone, Copy)]
+#[derive(Clone, Copy, PartialEq, Eq, Debug)]
 pub struct Told {
     pub to: Form,
     pub outcome: Outcome,
@@ -32,7 +32,7 @@ impl Told {
 }
 
 /// The data of an outcome, by where it stands in the memory.
-#[derive(Clone, Copy)]
+#[derive(Clone, Copy, PartialEq, Eq, Debug)]
 pub enum Data {
     /// The IDs of at most `most` templates from the place `from` on.
     Ids { from: usize, most: usize },
@@ -41,11 +41,14 @@ pub enum Data {
 }
 
 /// What a call answers.
-#[derive(Clone, Copy)]
+#[derive(Clone, Copy, PartialEq, Eq, Debug)]
 pub enum Answers {
+    /// No outcome.
     Nothing,
+    /// An outcome without data.
     One(Told),
-    /// LT and RT.
+    /// LT, RT: an outcome, and the IDs or the template that it carries.
     WithData(Told, Data),
+    /// Two outcomes without data, in this order.
     Two(Told, Told),
 }

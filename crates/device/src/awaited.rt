@@ -1,11 +1,12 @@
 use machine::Enrollment;
 use search::IdRange;
+use std::fmt;
 
 /// The bytes of the longest template of any memory.
 pub const LONGEST_TEMPLATE: usize = 384;
 
 /// What a request waits for.
-#[derive(Clone, Copy)]
+#[derive(Clone, Copy, PartialEq, Eq, Debug)]
 pub enum Awaited {
     Nothing,
     /// ESA: an administrator.
@@ -29,4 +30,13 @@ pub enum Awaited {
 pub struct FirstScan {
     pub bytes: [u8; LONGEST_TEMPLATE],
     pub quality: u8,
+}
+
+/// Leaves the bytes out, so that no log shows a scan.
+impl fmt::Debug for FirstScan {
+    fn fmt<W: fmt::Write>(&self, f: &mut fmt::Formatter<W>) -> fmt::Result {
+        f.debug_struct("FirstScan")
+            .field("quality", &self.quality)
+            .finish_non_exhaustive()
+    }
 }

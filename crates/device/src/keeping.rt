@@ -8,6 +8,7 @@ use machine::Settings;
 use matcher::Matcher;
 use memory::Memory;
 use packet::{Form, PASSWORD_LENGTH};
+use std::fmt;
 
 /// What a module keeps.
 #[derive(Drop)]
@@ -26,6 +27,24 @@ pub struct Device<M, S> {
     /// How many seconds it still waits; 0 means without end.
     pub left: u8,
     pub first: FirstScan,
+}
+
+/// Leaves the password out, so that no log shows it. The first scan leaves its bytes out, as both kinds of memory do.
+impl<M: fmt::Debug, S: fmt::Debug> fmt::Debug for Device<M, S> {
+    fn fmt<W: fmt::Write>(&self, f: &mut fmt::Formatter<W>) -> fmt::Result {
+        f.debug_struct("Device")
+            .field("matcher", &self.matcher)
+            .field("memory", &self.memory)
+            .field("own", &self.own)
+            .field("locked", &self.locked)
+            .field("settings", &self.settings)
+            .field("admins", &self.admins)
+            .field("awaited", &self.awaited)
+            .field("form", &self.form)
+            .field("left", &self.left)
+            .field("first", &self.first)
+            .finish_non_exhaustive()
+    }
 }
 
 impl<M: Matcher, S: Memory> Device<M, S> {

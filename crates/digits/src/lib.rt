@@ -123,7 +123,8 @@ fn digit_of(value: u8) -> u8
     }
 }
 
-/// Writes bytes as digits behind a text, high digit first. After an `Err` the text is as it was.
+/// Writes bytes as digits behind a text, high digit first. After an `Err`, which says that there is neither room for the
+/// digits nor memory for more, the text is as it was.
 pub fn write_hex(text: &mut Vec<u8>, bytes: &[u8]) -> Result<(), AllocError>
     ensures value { OnOk result (text.new.items
         ≡ text.old.items ++ hex_text bytes.now) }
@@ -131,6 +132,7 @@ pub fn write_hex(text: &mut Vec<u8>, bytes: &[u8]) -> Result<(), AllocError>
     ensures unchanged { OnErr result (text.new.items ≡ text.old.items) }
     ensures room { OnErr result (vec_capacity text.old
         < vec_len text.old + 2 * length bytes.now) }
+    ensures kept { vec_capacity text.old ≤ vec_capacity text.new }
 {
     text.reserve(2 * bytes.len())?;
     for b in bytes {

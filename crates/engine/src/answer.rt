@@ -3,7 +3,7 @@ ghost use Rattle.std.specs.Prelude.{◌≡◌, take};
 use packet::Outcome;
 
 /// The outcomes of a call, in their order.
-#[derive(Clone, Copy)]
+#[derive(Clone, Copy, PartialEq, Eq, Debug)]
 pub enum Outcomes {
     Nothing,
     One(Outcome),
@@ -11,7 +11,7 @@ pub enum Outcomes {
 }
 
 /// What a call answers: its outcomes, and how many bytes it wrote at the front of the answer buffer.
-#[derive(Clone, Copy)]
+#[derive(Clone, Copy, PartialEq, Eq, Debug)]
 pub struct Answer {
     pub outcomes: Outcomes,
     pub count: usize,

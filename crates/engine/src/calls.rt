@@ -20,8 +20,11 @@ use matcher::Matcher;
 use memory::Memory;
 use phases::{Event, Scan};
 
-/// The least answer buffer: LT's answer for 500 templates has room in it.
-const LEAST_ANSWER_BUFFER: usize = 2048;
+/// The bytes of the shortest answer buffer that a call takes: LT's answer for 500 templates has room in it.
+pub const LEAST_ANSWER_BUFFER: usize = 2048;
+
+/// The bytes of the shortest work buffer that a call takes: 384, so that a template of any memory has room in it.
+pub const LEAST_WORK_BUFFER: usize = LONGEST_TEMPLATE;
 
 /// The outcomes of what is answered.
 fn outcomes_of(answers: Answers) -> Outcomes
@@ -76,7 +79,7 @@ impl<M: Matcher, S: Memory> Module<M, S> {
         if out.len() < LEAST_ANSWER_BUFFER {
             return Err(Refusal::AnswerBuffer);
         }
-        if work.len() < LONGEST_TEMPLATE {
+        if work.len() < LEAST_WORK_BUFFER {
             return Err(Refusal::WorkBuffer);
         }
         self.serve_within(event, out, work)

@@ -43,7 +43,7 @@ fn answer<M: Matcher, S: Memory>(
     decide(device, Event::Packet(request), work)
 }
 
-/// The bytes of a frame.
+/// Reads a frame, and answers the request that it holds.
 #[inline(always)]
 fn hear_frame<M: Matcher, S: Memory>(
     device: &mut Device<M, S>,
@@ -58,7 +58,7 @@ fn hear_frame<M: Matcher, S: Memory>(
     answer(device, request, work)
 }
 
-/// What a call is given.
+/// Answers what a call is given: a frame, a scan or a second.
 pub(crate) fn hear<M: Matcher, S: Memory>(
     device: &mut Device<M, S>,
     event: Event<&[u8], Scan<'_>>,

@@ -9,7 +9,7 @@ use memory::Memory;
 
 /// A fingerprint module: a matcher, a memory, and what it keeps itself. It was made, and then came to what it is by
 /// calls: no other module can be written.
-#[derive(Drop)]
+#[derive(Debug, Drop)]
 pub struct Module<M: Matcher, S: Memory> {
     pub(crate) device: Device<M, S>,
     ghost reached: { ∥ Reached (view M.Matcher S.Memory device) ∥₁ },

@@ -9,4 +9,5 @@ mod inner;
 mod writing;
 
 pub use answer::{Answer, Outcomes};
+pub use calls::{LEAST_ANSWER_BUFFER, LEAST_WORK_BUFFER};
 pub use inner::Module;

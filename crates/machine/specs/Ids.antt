@@ -7,7 +7,8 @@ use Rattle.search.specs.declared.allowed.IdRange.{IdRange}
 abbrev pub is_id : ℕ → Bool
 is_id n = within 1 65535 n
 
--- a range: 0 for all IDs, or the least ID in the low 16 bits and one not below it in the high 16
+-- a range of IDs: 0 is all of them; else the low half of the number is the least one, and the high half the greatest,
+-- which may be no less
 abbrev pub range_of : ℕ → Option IdRange
 range_of n =
     cond (n == 0) (Some (record { least = 1; greatest = 65535 }))

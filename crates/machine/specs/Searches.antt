@@ -7,7 +7,7 @@ use Rattle.search.specs.Oldest.{any_of, oldest, passes}
 use Rattle.search.specs.declared.allowed.IdRange.{IdRange}
 use Rattle.machine.specs.State.{State}
 
--- to agree is a yes at the security level's strictness
+-- whether the matcher says yes, asked as strictly as the security level wants
 abbrev pub agrees : State → List ℕ → List ℕ → Bool
 agrees s scan stored = s.agree stored scan (strictness_of s.settings.security)
 

@@ -1,4 +1,4 @@
--- Fingers and seconds: what a request waits for and the call that comes decide together.
+-- What a finger and a second do, by what is awaited when they come.
 use Rattle.std.specs.Prelude.{ℕ, ◌-◌, max, cond, not, ◌&&◌, ◌||◌, List, [], ◌∷◌, length, is_some, Some, None}
 use Rattle.std.specs.Prelude.{Option, ◌==◌, nat_lt}
 use Rattle.codes.specs.declared.code.Code.{Code}

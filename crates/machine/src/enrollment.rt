@@ -10,7 +10,7 @@ pub enum Enroller {
 }
 
 /// For whom an enrolment is, how it treats what is held, and who lets it be.
-#[derive(Clone, Copy)]
+#[derive(Clone, Copy, PartialEq, Eq, Debug)]
 pub struct Enrollment {
     pub id: u16,
     pub flag: EnrollFlag,

@@ -23,7 +23,7 @@ pub enum Switch {
 }
 
 /// The system parameters that can be written.
-#[derive(Clone, Copy)]
+#[derive(Clone, Copy, PartialEq, Eq, Debug)]
 pub struct Settings {
     /// How many seconds a finger is awaited; 0 means without end. The parameter's value is 0x30 more.
     pub timeout: u8,
@@ -35,7 +35,7 @@ pub struct Settings {
 }
 
 /// One of these parameters, with a value that it takes.
-#[derive(Clone, Copy)]
+#[derive(Clone, Copy, PartialEq, Eq, Debug)]
 pub enum Setting {
     Timeout(u8),
     Enroll(EnrollMode),

@@ -2,7 +2,7 @@ ghost use Rattle.std.specs.Prelude.{◌≡◌, ℕ, Bool, List};
 
 use crate::strictness::Strictness;
 
-/// A matcher, by what it means: a yes or no for each stored template, scan and strictness.
+/// A matcher, by its answers: whether a scan agrees with a stored template, at each strictness.
 pub trait Matcher {
     ghost yes: { Self → List ℕ → List ℕ → ℕ → Bool };
 

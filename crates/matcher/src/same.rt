@@ -4,7 +4,7 @@ use crate::matching::Matcher;
 use crate::strictness::Strictness;
 
 /// Says yes for equal bytes of equal length, however strict.
-#[derive(Clone, Copy)]
+#[derive(Clone, Copy, Debug)]
 pub struct ByteMatcher;
 
 impl Matcher for ByteMatcher {

@@ -46,7 +46,7 @@ pub(crate) struct Head {
 }
 
 /// A packet, with the data behind it where it carries any.
-#[derive(Clone, Copy, PartialEq, Eq, Debug)]
+#[derive(Clone, Copy, PartialEq, Eq)]
 pub(crate) struct Packet<'a> {
     pub head: Head,
     pub data: Option<&'a [u8]>,

@@ -11,9 +11,10 @@ use crate::behind::{asks_with_data, split_data};
 use crate::form::{Form, Head, Packet};
 use crate::head::{network_head, standard_head};
 use codes::{Coded, Command, NetworkMode, Refusal};
+use std::fmt;
 
-/// A request.
-#[derive(Clone, Copy, PartialEq, Eq, Debug)]
+/// A request, as the host sends it.
+#[derive(Clone, Copy, PartialEq, Eq)]
 pub struct Request<'a> {
     pub form: Form,
     pub command: Coded<Command>,
@@ -22,6 +23,19 @@ pub struct Request<'a> {
     pub flag: u8,
     /// What ET, UM and MP carry behind the packet; other commands carry nothing.
     pub data: &'a [u8],
+}
+
+/// Leaves the data out, so that no log shows a password or a template.
+impl fmt::Debug for Request<'_> {
+    fn fmt<W: fmt::Write>(&self, f: &mut fmt::Formatter<W>) -> fmt::Result {
+        f.debug_struct("Request")
+            .field("form", &self.form)
+            .field("command", &self.command)
+            .field("param", &self.param)
+            .field("size", &self.size)
+            .field("flag", &self.flag)
+            .finish_non_exhaustive()
+    }
 }
 
 /// Whether a packet of this form is for the module `own`.

@@ -9,6 +9,7 @@ use crate::behind::{answers_with_data, split_data};
 use crate::form::{Form, Head, NETWORK_START, Packet};
 use crate::head::{network_head, standard_head};
 use codes::{Code, Coded, Command, Refusal};
+use std::fmt;
 
 /// What became of a request.
 #[derive(Clone, Copy, PartialEq, Eq, Debug)]
@@ -20,15 +21,25 @@ pub struct Outcome {
 }
 
 /// An outcome, the form of the request that it belongs to, and the data that LT and RT answer.
-#[derive(Clone, Copy, PartialEq, Eq, Debug)]
+#[derive(Clone, Copy, PartialEq, Eq)]
 pub struct Reply<'a> {
     pub to: Form,
     pub outcome: Outcome,
     pub data: &'a [u8],
 }
 
+/// Leaves the data out, so that no log shows a template.
+impl fmt::Debug for Reply<'_> {
+    fn fmt<W: fmt::Write>(&self, f: &mut fmt::Formatter<W>) -> fmt::Result {
+        f.debug_struct("Reply")
+            .field("to", &self.to)
+            .field("outcome", &self.outcome)
+            .finish_non_exhaustive()
+    }
+}
+
 /// A response, as it was read.
-#[derive(Clone, Copy, PartialEq, Eq, Debug)]
+#[derive(Clone, Copy, PartialEq, Eq)]
 pub struct Response<'a> {
     pub form: Form,
     pub command: Coded<Command>,
@@ -36,6 +47,19 @@ pub struct Response<'a> {
     pub size: u32,
     pub code: Coded<Code>,
     pub data: &'a [u8],
+}
+
+/// Leaves the data out, so that no log shows a template.
+impl fmt::Debug for Response<'_> {
+    fn fmt<W: fmt::Write>(&self, f: &mut fmt::Formatter<W>) -> fmt::Result {
+        f.debug_struct("Response")
+            .field("form", &self.form)
+            .field("command", &self.command)
+            .field("param", &self.param)
+            .field("size", &self.size)
+            .field("code", &self.code)
+            .finish_non_exhaustive()
+    }
 }
 
 /// The form in which the module `own` answers a request of this form; none for a broadcast.

@@ -2,8 +2,8 @@ ghost use Rattle.std.specs.Prelude.{◌≡◌, ◌+◌, ◌*◌, ◌≤◌, ◌+
 ghost use Rattle.std.proofs.Math.Seq.{paste};
 ghost use Rattle.page_memory.specs.Pages.{page_bytes};
 
-/// The bytes of a page.
-pub(crate) const PAGE: usize = 256;
+/// The bytes of a page, and of a template.
+pub const PAGE: usize = 256;
 
 /// Copies a page to the front of `into`.
 pub(crate) fn read_page(bytes: &[u8], page: usize, into: &mut [u8])

@@ -4,8 +4,8 @@ ghost use Rattle.page_memory.specs.Pages.{record_at};
 use rows::Keyed;
 use std::array;
 
-/// The records of a directory: a memory uses no more pages than these.
-pub(crate) const RECORDS: usize = 64;
+/// How many pages are used at most, however large the chip is: a directory has a record for each.
+pub const MOST_PAGES: usize = 64;
 
 /// A page, and the ID of the template on it. A free page's ID says nothing.
 #[derive(Clone, Copy)]
@@ -23,7 +23,7 @@ impl Keyed for Record {
 }
 
 /// A directory in which each page stands at its own number.
-pub(crate) fn all_free() -> [Record; RECORDS]
+pub(crate) fn all_free() -> [Record; MOST_PAGES]
     ensures long { length result ≡ 64 }
     ensures numbered { (k : ℕ) → k < 64 → (record_at result k).page ≡ k }
 {

@@ -9,16 +9,28 @@ ghost use Rattle.std.specs.List.{remove};
 ghost use Rattle.page_memory.specs.Listed.{held-within, held-sound};
 ghost use Rattle.std.proofs.Common.{rules, arith};
 
-use crate::chip::{PAGE, read_page, write_page};
-use crate::directory::{RECORDS, Record, all_free};
+use crate::chip::{read_page, write_page};
+use crate::directory::{Record, all_free};
 use memory::{Memory, NotAdded};
 use rows::strike;
+use std::fmt;
 
 mod chip;
 mod directory;
 mod layout;
 
+pub use chip::PAGE;
+pub use directory::MOST_PAGES;
 pub use layout::PageMemory;
+
+/// Leaves the chip's bytes out, so that no log shows a template.
+impl fmt::Debug for PageMemory {
+    fn fmt<W: fmt::Write>(&self, f: &mut fmt::Formatter<W>) -> fmt::Result {
+        f.debug_struct("PageMemory")
+            .field("count", &self.count)
+            .finish_non_exhaustive()
+    }
+}
 
 impl PageMemory {
     /// A memory that holds no template yet. What the bytes are does not matter.
@@ -50,7 +62,7 @@ impl Memory for PageMemory {
     ghost sound = { λ m. held-sound m };
 
     fn capacity(&self) -> usize {
-        (self.bytes.len() / PAGE).min(RECORDS)
+        (self.bytes.len() / PAGE).min(MOST_PAGES)
     }
 
     fn count(&self) -> usize {

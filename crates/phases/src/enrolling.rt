@@ -29,7 +29,7 @@ pub(crate) fn enroll_command(by: Enroller) -> Command
     }
 }
 
-/// An enrolment is done: SUCCESS with the ID, and the best quality of its fingers.
+/// Ends an enrolment with SUCCESS: the ID in Param, and in Size the greatest quality among its fingers.
 fn succeed<M: Matcher, S: Memory>(
     device: &mut Device<M, S>,
     enrollment: Enrollment,

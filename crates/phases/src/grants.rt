@@ -28,7 +28,7 @@ pub(crate) struct Grant {
 }
 
 impl Grant {
-    /// ESA.
+    /// ESA: one who may let others enrol grants it, and then the first finger is awaited.
     pub(crate) fn to_enroll(enrollment: Enrollment) -> Grant
         ensures { result ≡ record {
           right = Right.Enroll;
@@ -43,7 +43,7 @@ impl Grant {
         }
     }
 
-    /// DSA.
+    /// DSA: one who may let others delete grants it, and then a finger of an ID in the range is awaited.
     pub(crate) fn to_delete(range: IdRange) -> Grant
         ensures { result ≡ record {
           right = Right.Delete;

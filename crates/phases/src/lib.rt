@@ -1,4 +1,4 @@
-//! What a request waits for and the call that comes decide together.
+//! What a call makes of a module, by what is awaited when it comes.
 #![tactic(auto)]
 
 mod deciding;

@@ -14,7 +14,7 @@ use matcher::Matcher;
 use memory::Memory;
 use search::{Allowed, IdRange};
 
-/// One ID.
+/// One ID, the only one that a search may find.
 #[derive(Clone, Copy, PartialEq, Eq, Debug)]
 pub(crate) struct OneId(pub(crate) u16);
 
@@ -34,13 +34,13 @@ pub(crate) struct Question {
 }
 
 impl Question {
-    /// VS.
+    /// VS: where the finger is not the ID's, it answers NOT_MATCH.
     pub(crate) const VERIFY: Question = Question {
         command: Command::Verify,
         missed: Code::NotMatch,
     };
 
-    /// IS.
+    /// IS: where the finger is no ID's of the range, it answers NOT_FOUND.
     pub(crate) const IDENTIFY: Question = Question {
         command: Command::Identify,
         missed: Code::NotFound,

@@ -15,7 +15,7 @@ fn needed(strictness: Strictness) -> usize
 }
 
 /// Says yes if enough points of the scan lie near stored ones; the stricter, the more it takes.
-#[derive(Clone, Copy)]
+#[derive(Clone, Copy, Debug)]
 pub struct PointMatcher;
 
 impl Matcher for PointMatcher {

@@ -95,7 +95,7 @@ owned_by n (Err e) = nobody
 abbrev pub packet_at : ℕ → ℕ → List ℕ → Owner
 packet_at own n frame = owned_by n (read_request (mode_of frame) own frame)
 
--- the waiting packet: the last one whose own call gave neither a refusal nor an outcome
+-- the packet that waits: the last one that was not refused and that its own call left without an outcome
 abbrev pub waits : ℕ → Event → Result (List Outcome) Refusal → ℕ → Owner → Owner
 waits own (packet frame) (Ok []) n w = packet_at own n frame
 waits own (packet frame) (Ok (o ∷ os)) n w = w
@@ -175,7 +175,7 @@ abbrev pub strike : ℕ → List ℕ → List ℕ
 strike id [] = []
 strike id (x ∷ xs) = cond (x == id) (strike id xs) (x ∷ strike id xs)
 
--- an enrolment: under flag 0 the ID leaves the list; then it is put last, once for each needed place
+-- an enrolment: with flag 0 the ID is struck first; it then comes behind the others, as often as places are needed
 abbrev pub enrolled_in : ℕ → ℕ → ℕ → Tally → Tally
 enrolled_in id flag needed y = record {
   ids = cond (flag == 0) (strike id y.ids) y.ids ++ replicate needed id;

@@ -16,7 +16,7 @@ use matcher::Matcher;
 use memory::Memory;
 use packet::Request;
 
-/// DT: the templates go, and with the last of them the administrator's row.
+/// DT: deletes the templates of an ID, and with them its administrator's row.
 pub(crate) fn delete<M: Matcher, S: Memory>(
     device: &mut Device<M, S>,
     request: Request<'_>,
@@ -30,7 +30,7 @@ pub(crate) fn delete<M: Matcher, S: Memory>(
     Ok(just(request, Code::Success))
 }
 
-/// DA: with the templates go all administrators' rows.
+/// DA: deletes all templates, and with them all administrators' rows.
 pub(crate) fn delete_all<M: Matcher, S: Memory>(
     device: &mut Device<M, S>,
     request: Request<'_>,
@@ -43,7 +43,7 @@ pub(crate) fn delete_all<M: Matcher, S: Memory>(
     just(request, Code::Success)
 }
 
-/// DSA.
+/// DSA: waits for an administrator, if there is one who may let others delete.
 pub(crate) fn delete_by_administrator<M: Matcher, S: Memory>(
     device: &mut Device<M, S>,
     request: Request<'_>,
@@ -70,7 +70,8 @@ fn level_in(flag: u8) -> Result<Option<Level>, Code>
     }
 }
 
-/// AW. Where all sixteen rows are taken by others, there is none for the ID.
+/// AW: writes the level of an ID; flag 0 strikes its row. Where all sixteen rows are taken by others, there is none for
+/// the ID.
 pub(crate) fn write_level<M: Matcher, S: Memory>(
     device: &mut Device<M, S>,
     request: Request<'_>,

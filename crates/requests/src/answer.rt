@@ -6,7 +6,7 @@ use codes::Code;
 use device::{Answers, Told};
 use packet::Request;
 
-/// One outcome.
+/// Answers a request with one outcome.
 pub(crate) fn answer(request: Request<'_>, param: u32, size: u32, code: Code) -> Answers
     ensures { result ≡ One (record {
       to = request.entry.form;
@@ -16,7 +16,7 @@ pub(crate) fn answer(request: Request<'_>, param: u32, size: u32, code: Code) ->
     Answers::One(Told::own(request, param, size, code))
 }
 
-/// One outcome with nothing in Param and Size.
+/// Answers a request with a code alone: Param and Size are 0.
 pub(crate) fn just(request: Request<'_>, code: Code) -> Answers
     ensures { result ≡ One (record { to = request.entry.form; outcome = outcome request.entry.command 0 0 code }) }
 {

@@ -110,7 +110,7 @@ fn first_awaited(by: Enroller, enrollment: Enrollment) -> Awaited
     }
 }
 
-/// ES, and by an administrator ESA.
+/// ES waits for the finger that is to be enrolled, ESA for an administrator first.
 pub(crate) fn enroll<M: Matcher, S: Memory>(
     device: &mut Device<M, S>,
     request: Request<'_>,
@@ -125,7 +125,7 @@ pub(crate) fn enroll<M: Matcher, S: Memory>(
     Ok(Answers::Nothing)
 }
 
-/// ET: the template comes as data, of the memory's length.
+/// ET: enrols the template that comes as data, if it is as long as the memory's.
 pub(crate) fn enroll_template<M: Matcher, S: Memory>(
     device: &mut Device<M, S>,
     request: Request<'_>,

@@ -13,7 +13,7 @@ use matcher::Matcher;
 use memory::Memory;
 use search::{IdRange, place_of};
 
-/// What the flag stands for.
+/// The case whose number stands in the flag.
 pub(crate) fn flag_in<C: Numbered>(flag: u8) -> Result<C, Code>
     ensures { result ≡ ok_or (case_of C.Numbered.number_of C.Numbered.cases flag) Unsupported }
 {

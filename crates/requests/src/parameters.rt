@@ -12,7 +12,7 @@ use matcher::Matcher;
 use memory::Memory;
 use packet::Request;
 
-/// SW.
+/// SW: writes a system parameter, if it can be written and takes the value.
 pub(crate) fn write_parameter<M: Matcher, S: Memory>(
     device: &mut Device<M, S>,
     request: Request<'_>,
@@ -43,7 +43,7 @@ fn value_of<M: Matcher, S: Memory>(device: &Device<M, S>, parameter: Parameter) 
     }
 }
 
-/// SR.
+/// SR: answers the value of a system parameter.
 pub(crate) fn read_parameter<M: Matcher, S: Memory>(
     device: &Device<M, S>,
     request: Request<'_>,

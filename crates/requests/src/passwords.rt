@@ -30,7 +30,7 @@ fn password_in(data: &[u8]) -> Result<[u8; PASSWORD_LENGTH], Code>
     Ok(*password)
 }
 
-/// UM: a password and its sum.
+/// UM: unlocks the module, if the data is the password and its sum.
 pub(crate) fn unlock<M: Matcher, S: Memory>(
     device: &mut Device<M, S>,
     request: Request<'_>,
@@ -46,7 +46,7 @@ pub(crate) fn unlock<M: Matcher, S: Memory>(
     Ok(just(request, Code::Success))
 }
 
-/// LM.
+/// LM: locks the module, which hears nothing but UM from then on.
 pub(crate) fn lock<M: Matcher, S: Memory>(
     device: &mut Device<M, S>,
     request: Request<'_>,
@@ -58,7 +58,7 @@ pub(crate) fn lock<M: Matcher, S: Memory>(
     just(request, Code::Success)
 }
 
-/// MP: the password and its sum, a new one and its sum.
+/// MP: replaces the password, if the data is the password and its sum, then a new one and its sum.
 pub(crate) fn change_password<M: Matcher, S: Memory>(
     device: &mut Device<M, S>,
     request: Request<'_>,

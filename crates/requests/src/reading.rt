@@ -15,7 +15,7 @@ use memory::Memory;
 use packet::Request;
 use search::place_of;
 
-/// VS.
+/// VS: waits for a finger of the ID, if that has templates.
 pub(crate) fn verify<M: Matcher, S: Memory>(
     device: &mut Device<M, S>,
     request: Request<'_>,
@@ -28,7 +28,7 @@ pub(crate) fn verify<M: Matcher, S: Memory>(
     Ok(Answers::Nothing)
 }
 
-/// IS.
+/// IS: waits for a finger of any ID in the range.
 pub(crate) fn identify<M: Matcher, S: Memory>(
     device: &mut Device<M, S>,
     request: Request<'_>,
@@ -42,7 +42,7 @@ pub(crate) fn identify<M: Matcher, S: Memory>(
     Ok(Answers::Nothing)
 }
 
-/// RT: the template's number is in Size.
+/// RT: answers a template of an ID, by the number in Size.
 pub(crate) fn read_template<M: Matcher, S: Memory>(
     device: &Device<M, S>,
     request: Request<'_>,
@@ -71,7 +71,7 @@ fn list_block<M: Matcher, S: Memory>(
     Answers::WithData(told, Data::Ids { from, most })
 }
 
-/// LT: the block's index is in Param, its size in Size; size 0 lists all.
+/// LT: answers a block of the held IDs. Its index is in Param, its size in Size; size 0 lists all.
 pub(crate) fn list<M: Matcher, S: Memory>(
     device: &Device<M, S>,
     request: Request<'_>,

@@ -18,7 +18,7 @@ use matcher::Matcher;
 use memory::Memory;
 use packet::{Request, asks_with_data};
 
-/// What each command does.
+/// Carries a request out by its command; an `Err` is the code of its outcome.
 fn carry_out<M: Matcher, S: Memory>(
     device: &mut Device<M, S>,
     request: Request<'_>,

@@ -6,8 +6,8 @@ ghost use Rattle.row_memory.specs.Rows.{closed, closed_first, held_in, row_at, r
 
 use memory::LISTED_ID;
 
-/// The bytes of a row: an ID, low byte first, and a template.
-pub(crate) const ROW: usize = 386;
+/// The bytes of a row: an ID in two bytes, low byte first, and a template.
+pub const ROW: usize = 386;
 
 /// The bytes of an ID.
 const ID: usize = 2;

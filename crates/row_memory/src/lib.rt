@@ -7,11 +7,14 @@ ghost use Rattle.std.proofs.Common.{arith, rules};
 ghost use Rattle.row_memory.specs.RowsLemmas.{rows_length, all_sound};
 
 use memory::{Memory, NotAdded};
+use std::fmt;
 
 mod chip;
 
-/// The rows that are used at most, however large the chip is.
-const MOST_ROWS: usize = 500;
+pub use chip::ROW;
+
+/// How many rows are used at most, however large the chip is.
+pub const MOST_ROWS: usize = 500;
 
 /// A chip whose first `count` rows hold templates, oldest first.
 #[derive(Drop)]
@@ -20,6 +23,15 @@ pub struct RowMemory {
     count: usize,
     ghost fits: { count ≤ capacity_of bytes.items },
     ghost sound: { AllSound bytes.items count },
+}
+
+/// Leaves the chip's bytes out, so that no log shows a template.
+impl fmt::Debug for RowMemory {
+    fn fmt<W: fmt::Write>(&self, f: &mut fmt::Formatter<W>) -> fmt::Result {
+        f.debug_struct("RowMemory")
+            .field("count", &self.count)
+            .finish_non_exhaustive()
+    }
 }
 
 impl RowMemory {

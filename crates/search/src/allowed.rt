@@ -11,7 +11,7 @@ pub trait Allowed {
 }
 
 /// All IDs.
-#[derive(Clone, Copy)]
+#[derive(Clone, Copy, PartialEq, Eq, Debug)]
 pub struct Everyone;
 
 impl Allowed for Everyone {
@@ -23,7 +23,7 @@ impl Allowed for Everyone {
 }
 
 /// The IDs from the least to the greatest, both counted in; one ID where they are equal.
-#[derive(Clone, Copy)]
+#[derive(Clone, Copy, PartialEq, Eq, Debug)]
 pub struct IdRange {
     pub least: u16,
     pub greatest: u16,

@@ -8,6 +8,7 @@ use crate::allowed::{Allowed, Everyone};
 use crate::ids::{MOST_TEMPLATES, count_in};
 use matcher::{Matcher, Strictness};
 use memory::Memory;
+use std::fmt;
 
 /// A scan that is looked up in a memory, by a matcher at a strictness.
 /// Templates are copied into a work buffer, which is the caller's to clear; in one that is too short, nothing agrees.
@@ -17,6 +18,17 @@ pub struct Search<'a, M, S> {
     pub memory: &'a S,
     pub scan: &'a [u8],
     pub strictness: Strictness,
+}
+
+/// Leaves the scan out, so that no log shows it.
+impl<M: fmt::Debug, S: fmt::Debug> fmt::Debug for Search<'_, M, S> {
+    fn fmt<W: fmt::Write>(&self, f: &mut fmt::Formatter<W>) -> fmt::Result {
+        f.debug_struct("Search")
+            .field("matcher", self.matcher)
+            .field("memory", self.memory)
+            .field("strictness", &self.strictness)
+            .finish_non_exhaustive()
+    }
 }
 
 impl<'a, M: Matcher, S: Memory> Search<'a, M, S> {

@@ -2,26 +2,32 @@
 #![tactic(auto)]
 
 mod capture;
+mod following;
+mod hearing;
+mod line;
 mod options;
 mod report;
 
 use capture::Capture;
-use options::read_options;
+use cli::{Stop, exit_code};
+use following::follow;
+use options::read_hearing;
 use report::Report;
-use std::io::{BufRead, BufReader, BufWriter, Write};
+use std::env;
+use std::io::{BufReader, BufWriter};
+use std::process::ExitCode;
 
-fn run(rt: &HostRuntime) -> anyhow::Result<()> {
-    let hearing = read_options(rt)?;
+/// Tells what each line of standard input asks, and at its end how many lines there were of each kind.
+fn run(rt: &HostRuntime) -> Result<(), Stop> {
     let heap = rt.alloc();
-    let mut capture = Capture::new(hearing);
-    let mut out = Report::new(BufWriter::new(heap, rt.stdout())?);
-    for line in BufReader::new(heap, rt.stdin())?.split(heap, b'\n') {
-        capture.line(heap, line?.as_slice(), &mut out)?;
-    }
-    out.summary(&capture)?;
-    Ok(())
+    let words: Vec<String> = env::args(rt)?.collect(heap)?;
+    let mut capture = Capture::new(read_hearing(heap, &words)?);
+    let mut input = BufReader::new(heap, rt.stdin())?;
+    let mut report = Report::new(BufWriter::new(heap, rt.stdout())?);
+    follow(heap, &mut capture, &mut input, &mut report)?;
+    Ok(report.summary(&capture)?)
 }
 
-fn main(rt: HostRuntime) -> anyhow::Result<()> {
-    run(&rt)
+fn main(rt: HostRuntime) -> ExitCode {
+    exit_code(&rt, run(&rt))
 }

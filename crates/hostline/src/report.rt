@@ -1,4 +1,5 @@
 use crate::capture::Capture;
+use crate::line::IllFormed;
 use codes::{Coded, Command, EnrollFlag, Parameter, Refusal};
 use packet::Request;
 use std::io;
@@ -28,31 +29,23 @@ fn flag_name(request: Request<'_>) -> &'static str {
 }
 
 impl<W: Write> Report<W> {
+    /// A report that is written to `out`.
     pub fn new(out: W) -> Report<W> {
         Report { out }
     }
 
-    pub fn empty(&mut self, line: u64) -> io::Result<()> {
-        writeln!(self.out, "{line:>6}  ill-formed: no digits")
+    /// Reports a line that is no frame, and why.
+    pub fn ill_formed(&mut self, line: u64, fault: IllFormed) -> io::Result<()> {
+        writeln!(self.out, "{line:>6}  ill-formed: {fault}")
     }
 
-    pub fn no_digit(&mut self, line: u64, at: usize) -> io::Result<()> {
-        let column = at.saturating_add(1);
-        writeln!(
-            self.out,
-            "{line:>6}  ill-formed: no digit 0 to 9 or A to F in column {column}"
-        )
-    }
-
-    pub fn odd(&mut self, line: u64) -> io::Result<()> {
-        writeln!(self.out, "{line:>6}  ill-formed: an odd number of digits")
-    }
-
+    /// Reports a frame that was refused, and by which test.
     pub fn refusal(&mut self, line: u64, refusal: Refusal) -> io::Result<()> {
         let number = u8::from(refusal);
         writeln!(self.out, "{line:>6}  refused {number}: {refusal}")
     }
 
+    /// Reports a request, field by field, and whether it writes back to its frame.
     pub fn request(&mut self, line: u64, request: Request<'_>, identical: bool) -> io::Result<()> {
         let command = request.command;
         let form = request.form;
@@ -73,7 +66,12 @@ impl<W: Write> Report<W> {
         writeln!(self.out, "written back {back}")
     }
 
-    /// Says what was done, and writes out what is still held back.
+    /// What the report is written to.
+    pub fn out(&mut self) -> &mut W {
+        &mut self.out
+    }
+
+    /// Says how many lines, frames and requests there were, and writes out what is still held back.
     pub fn summary(&mut self, capture: &Capture) -> io::Result<()> {
         let lines = capture.lines;
         let ill_formed = capture.ill_formed;

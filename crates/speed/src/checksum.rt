@@ -12,14 +12,17 @@ const REFUSED: u32 = 256;
 pub(crate) struct Checksum(pub u32);
 
 impl Checksum {
+    /// This checksum with one more number taken in.
     fn with(self, value: u32) -> Checksum {
         Checksum(self.0.wrapping_mul(31).wrapping_add(value))
     }
 
+    /// Takes in a number.
     fn fold(&mut self, value: u32) {
         *self = self.with(value);
     }
 
+    /// Takes in the code of each outcome.
     fn outcomes(&mut self, outcomes: Outcomes) {
         match outcomes {
             Outcomes::Nothing => {}
@@ -31,6 +34,7 @@ impl Checksum {
         }
     }
 
+    /// Takes in an answer: its outcomes, how many bytes were written, and the last of them.
     fn answer(&mut self, answer: Answer, out: &[u8]) {
         let written = answer.written(out);
         self.outcomes(answer.outcomes);

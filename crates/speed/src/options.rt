@@ -1,11 +1,12 @@
-use anyhow::{Context, anyhow};
-use std::str::FromStr;
-use std::{env, fmt};
-
-const USAGE: &str = "usage: speed WORKLOAD COUNT";
+use anyhow::Context;
+use clap::{Arg, Command, Error, value_parser};
+use cli::Stop;
+use std::alloc::Global;
+use std::convert::AsStr;
+use std::fmt;
 
 /// What a module is given to do.
-#[derive(Clone, Copy)]
+#[derive(Clone, Copy, PartialEq, Eq, Debug)]
 pub(crate) enum Workload {
     Frames,
     List,
@@ -16,6 +17,16 @@ pub(crate) enum Workload {
 }
 
 impl Workload {
+    const ALL: [Workload; 6] = [
+        Workload::Frames,
+        Workload::List,
+        Workload::Identify,
+        Workload::IdentifyBytes,
+        Workload::Enroll,
+        Workload::Delete,
+    ];
+
+    /// The word for the workload.
     fn name(self) -> &'static str {
         match self {
             Workload::Frames => "frames",
@@ -26,6 +37,13 @@ impl Workload {
             Workload::Delete => "delete",
         }
     }
+
+    /// The workload of this name; none for another name.
+    fn named(name: &str) -> Option<Workload> {
+        Workload::ALL
+            .into_iter()
+            .find(|workload| workload.name() == name)
+    }
 }
 
 impl fmt::Display for Workload {
@@ -34,40 +52,43 @@ impl fmt::Display for Workload {
     }
 }
 
-impl FromStr for Workload {
-    type Err = anyhow::Error;
-
-    fn from_str(name: &str) -> anyhow::Result<Workload> {
-        match name {
-            "frames" => Ok(Workload::Frames),
-            "list" => Ok(Workload::List),
-            "identify" => Ok(Workload::Identify),
-            "identify_bytes" => Ok(Workload::IdentifyBytes),
-            "enrol" => Ok(Workload::Enroll),
-            "delete" => Ok(Workload::Delete),
-            _ => Err(anyhow!(
-                "the workloads are frames, list, identify, identify_bytes, enrol and delete"
-            )),
-        }
-    }
-}
-
 /// A workload, and how many times it is done.
-#[derive(Clone, Copy)]
+#[derive(Clone, Copy, PartialEq, Eq, Debug)]
 pub(crate) struct Options {
     pub workload: Workload,
     pub count: u32,
 }
 
-/// Reads the arguments.
-pub(crate) fn read_options(rt: &HostRuntime) -> anyhow::Result<Options> {
-    let words: Vec<String> = env::args(rt)?.skip(1).collect(rt.alloc())?;
-    let [workload, count] = words.as_slice() else {
-        return Err(anyhow!("{USAGE}"));
-    };
-    let number = count.as_str().parse().ok();
+/// The arguments and their help.
+fn usage<'a>(heap: Global, names: &'a [&'a str]) -> Result<Command<'a>, Error> {
+    let workload = Arg::new(heap, "WORKLOAD")
+        .required(true)
+        .help("What the module is given to do, again and again")
+        .value_parser(names);
+    let count = Arg::new(heap, "COUNT")
+        .required(true)
+        .allow_negative_numbers(true)
+        .help("How many times, 0 to 4294967295")
+        .value_parser(value_parser!(u32));
+    Ok(
+        Command::new(heap, "speed")
+            .about(
+                "Gives a module the same work again and again, and prints a checksum of all its answers.",
+            )
+            .arg(workload)?
+            .arg(count)?,
+    )
+}
+
+/// What is to be done, by the words of a command line, of which the first names the program. An `Err` has the help
+/// that was asked for, or says which argument is wrong and what was given for it.
+pub(crate) fn read_options<S: AsStr>(heap: Global, words: &[S]) -> Result<Options, Stop> {
+    let names = Workload::ALL.map(Workload::name);
+    let matches = usage(heap, names.as_slice())?.try_get_matches_from(words)?;
+    let workload = matches.get_str("WORKLOAD").and_then(Workload::named);
+    let count = matches.get_one::<u32>("COUNT");
     Ok(Options {
-        workload: workload.as_str().parse()?,
-        count: number.context("COUNT wants a number from 0 to 4294967295")?,
+        workload: workload.context("no WORKLOAD was given")?,
+        count: count.context("no COUNT was given")?,
     })
 }

@@ -1,26 +1,25 @@
+ghost use Rattle.std.specs.Prelude.{◌≤◌};
+
 use crate::frames::{enroll as enroll_frame, plain, read};
+use crate::making::{HELD, over_pages, over_rows};
 use crate::templates::strange_scan;
 use crate::workbench::Workbench;
 use codes::{Command, Parameter};
 use matcher::{ByteMatcher, Matcher};
 use memory::Memory;
-use page_memory::PageMemory;
+use page_memory::{MOST_PAGES, PAGE};
 use point_matcher::PointMatcher;
 use row_memory::RowMemory;
-use std::alloc::{AllocError, Global};
+use std::alloc::Global;
 
-const PAGE: u16 = 256;
+/// The bytes of the template in a row.
+const ROW_TEMPLATE: usize = RowMemory::T;
 
-const ROW: usize = 386;
+/// How many pages a module has whose parameters are read.
+const FEW_PAGES: u16 = 16;
 
-/// The template in a row.
-const ROW_TEMPLATE: u16 = 384;
-
-/// The templates of a full row memory, each under an ID of its own.
-const HELD: u16 = 500;
-
-/// The pages of a full page memory.
-const PAGES: u16 = 64;
+/// How many pages a page memory has at most.
+const PAGES: u16 = MOST_PAGES as u16;
 
 /// The IDs that come and go in a full memory.
 const IDS: u16 = 1000;
@@ -38,14 +37,9 @@ const READABLE: [Parameter; 9] = [
     Parameter::AvailableFinger,
 ];
 
-fn pages(heap: Global, count: u16) -> Result<PageMemory, AllocError> {
-    Ok(PageMemory::new(vec![in heap; 0u8; usize::from(count) * usize::from(PAGE)]?))
-}
-
-/// A module over a row memory that is full.
+/// A module over a row memory that is full: each template stands under an ID of its own.
 fn full<M: Matcher + Drop>(heap: Global, matcher: M) -> anyhow::Result<Workbench<M, RowMemory>> {
-    let memory = RowMemory::new(vec![in heap; 0u8; usize::from(HELD) * ROW]?);
-    let mut bench = Workbench::new(matcher, memory);
+    let mut bench = over_rows(heap, matcher)?;
     for id in 1..=HELD {
         bench.packet(&enroll_frame(heap, id, ROW_TEMPLATE)?);
     }
@@ -54,7 +48,7 @@ fn full<M: Matcher + Drop>(heap: Global, matcher: M) -> anyhow::Result<Workbench
 
 /// The parameters are read, one after the other.
 pub(crate) fn frames(heap: Global, count: u32) -> anyhow::Result<u32> {
-    let mut bench = Workbench::new(ByteMatcher, pages(heap, 16)?);
+    let mut bench = over_pages(heap, ByteMatcher, FEW_PAGES)?;
     let mut asked = Vec::new(heap);
     for parameter in READABLE {
         asked.push(read(heap, parameter)?)?;
@@ -97,8 +91,10 @@ pub(crate) fn identify_bytes(heap: Global, count: u32) -> anyhow::Result<u32> {
     identify_by(heap, ByteMatcher, count)
 }
 
-/// ET for the IDs from 1 to the last.
-fn enrolling(heap: Global, last: u16, size: u16) -> anyhow::Result<Vec<Vec<u8>>> {
+/// ET for the IDs from 1 to the last, with templates of so many bytes.
+fn enrolling(heap: Global, last: u16, size: usize) -> anyhow::Result<Vec<Vec<u8>>>
+    requires { size ≤ 384 }
+{
     let mut frames = Vec::new(heap);
     for id in 1..=last {
         frames.push(enroll_frame(heap, id, size)?)?;
@@ -108,7 +104,7 @@ fn enrolling(heap: Global, last: u16, size: u16) -> anyhow::Result<Vec<Vec<u8>>>
 
 /// A page memory is filled, and emptied at once.
 pub(crate) fn enroll(heap: Global, count: u32) -> anyhow::Result<u32> {
-    let mut bench = Workbench::new(ByteMatcher, pages(heap, PAGES)?);
+    let mut bench = over_pages(heap, ByteMatcher, PAGES)?;
     let frames = enrolling(heap, PAGES, PAGE)?;
     let empty = plain(heap, Command::DeleteAll, 0, 0)?;
     for _ in 0..count {

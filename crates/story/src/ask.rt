@@ -1,4 +1,5 @@
 use crate::person::{SCAN, scan_of};
+use crate::standing::Awaited;
 use codes::{Coded, Command, EnrollFlag, Parameter};
 use packet::{Form, Request};
 use std::fmt;
@@ -28,7 +29,7 @@ pub(crate) enum Ask {
 }
 
 impl Ask {
-    fn command(self) -> Command {
+    pub fn command(self) -> Command {
         match self {
             Ask::Enroll(_) => Command::Enroll,
             Ask::EnrollByAdministrator(_) => Command::EnrollByAdministrator,
@@ -89,13 +90,15 @@ impl Ask {
         }
     }
 
-    /// What it means that the module says nothing to this.
-    pub fn silence(self) -> &'static str {
+    /// What the request waits for first; none for one that takes no finger.
+    pub fn awaited(self) -> Option<Awaited> {
         match self {
+            Ask::Enroll(_) => Some(Awaited::FirstFinger),
             Ask::EnrollByAdministrator(_) | Ask::DeleteByAdministrator => {
-                "waits for an administrator's finger"
+                Some(Awaited::Administrator)
             }
-            _ => "waits for a finger",
+            Ask::Identify => Some(Awaited::Person),
+            _ => None,
         }
     }
 

@@ -1,5 +1,8 @@
-use crate::bench::refused;
+use crate::ask::Ask;
+use crate::bench::{Given, refused};
+use crate::standing::Standing;
 use crate::words::Said;
+use cli::Stop;
 use packet::{Response, read_response};
 use std::fmt::Display;
 use std::io;
@@ -29,15 +32,19 @@ impl<'a> Iterator for Responses<'a> {
     }
 }
 
-/// What is told, line by line.
+/// What is told, line by line, and how things stand by it.
 #[derive(Drop)]
 pub(crate) struct Telling<W: Write> {
     out: W,
+    standing: Standing,
 }
 
 impl<W: Write> Telling<W> {
     pub fn new(out: W) -> Telling<W> {
-        Telling { out }
+        Telling {
+            out,
+            standing: Standing::Idle,
+        }
     }
 
     /// A line for itself.
@@ -50,15 +57,33 @@ impl<W: Write> Telling<W> {
         writeln!(self.out, "  {who:<8}{what}")
     }
 
-    /// What the module answered; `silence` is what it means that it answered nothing.
-    pub fn answers(&mut self, bytes: &[u8], silence: &str) -> anyhow::Result<()> {
-        if bytes.is_empty() {
-            return Ok(self.line("module", silence)?);
+    /// What the module answered.
+    pub fn answers(&mut self, written: &[u8]) -> Result<(), Stop> {
+        if written.is_empty() {
+            return Ok(self.line("module", "says nothing")?);
         }
-        for response in Responses(bytes).take(MOST_RESPONSES) {
+        for response in Responses(written).take(MOST_RESPONSES) {
             self.line("module", Said(response?))?;
         }
         Ok(())
+    }
+
+    /// What a packet was answered, and how things stand after it, where a request waits, has waited or could have.
+    pub fn packet(&mut self, ask: Ask, given: Given<'_>) -> Result<(), Stop> {
+        self.answers(given.written)?;
+        let has_waited = self.standing.waiting().is_some();
+        self.standing = self.standing.after_packet(ask, given.outcomes);
+        if has_waited || ask.awaited().is_some() {
+            self.line("awaits", self.standing)?;
+        }
+        Ok(())
+    }
+
+    /// What a finger or a second was answered, and how things stand after it.
+    pub fn event(&mut self, given: Given<'_>) -> Result<(), Stop> {
+        self.answers(given.written)?;
+        self.standing = self.standing.after_event(given.outcomes);
+        Ok(self.line("awaits", self.standing)?)
     }
 
     /// Writes out what is still held back.

@@ -32,6 +32,7 @@ fn param_label(command: Command, code: Code) -> Option<&'static str> {
             Command::Enroll
             | Command::EnrollByAdministrator
             | Command::EnrollTemplate
+            | Command::DeleteByAdministrator
             | Command::Identify,
             Code::Success,
         )

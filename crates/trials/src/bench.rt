@@ -1,23 +1,26 @@
 use codes::{Code, Coded, Command, Parameter, Refusal};
-use engine::{Answer, Module, Outcomes};
+use engine::{Answer, LEAST_ANSWER_BUFFER, LEAST_WORK_BUFFER, Module, Outcomes};
 use packet::{Form, Outcome, Request, write_request};
-use page_memory::PageMemory;
+use page_memory::{PAGE, PageMemory};
 use point_matcher::PointMatcher;
 use std::alloc::{AllocError, Global};
 use std::array;
 use std::test::*;
 
 /// The bytes of a scan: those of a template of a page memory.
-pub(crate) const SCAN: usize = 256;
+pub(crate) const SCAN: usize = PAGE;
 
 const LAST: usize = SCAN - 1;
+
+/// More bytes than any request of the trials takes.
+const LONGEST_FRAME: usize = 512;
 
 /// A module on the bench, with the buffers that its calls are lent, as short as they may be.
 #[derive(Drop)]
 pub(crate) struct Bench {
     pub module: Module<PointMatcher, PageMemory>,
-    pub out: [u8; 2048],
-    work: [u8; 384],
+    pub out: [u8; LEAST_ANSWER_BUFFER],
+    work: [u8; LEAST_WORK_BUFFER],
 }
 
 /// What a call gave: the Size of its last outcome, and what it wrote, which is lent until the next call.
@@ -102,16 +105,16 @@ fn ended_with(answer: Answer, out: &[u8], code: Code) -> Result<Given<'_>, Fail>
 impl Bench {
     /// A fresh module with a number, over a chip of so many pages.
     pub(crate) fn new(heap: Global, pages: u8, own: u16) -> Result<Bench, AllocError> {
-        let chip = vec![in heap; 0u8; usize::from(pages) * SCAN]?;
+        let chip = vec![in heap; 0u8; usize::from(pages) * PAGE]?;
         Ok(Bench {
             module: Module::new(PointMatcher, PageMemory::new(chip), own),
-            out: [0; 2048],
-            work: [0; 384],
+            out: [0; LEAST_ANSWER_BUFFER],
+            work: [0; LEAST_WORK_BUFFER],
         })
     }
 
     fn send(&mut self, request: Request<'_>) -> Result<Answer, Fail> {
-        let mut frame = [0; 512];
+        let mut frame = [0; LONGEST_FRAME];
         let length = write_request(&mut frame, request).ok_or("a request too long")?;
         let sent = frame.get(0..length).ok_or("a request too long")?;
         self.module

@@ -1,5 +1,6 @@
 use crate::bench::{Bench, all_are, enroll_template, get, request, scan_of, set};
 use codes::{Code, Command, Parameter};
+use engine::LEAST_ANSWER_BUFFER;
 use packet::{Form, Request};
 use std::test::*;
 
@@ -16,7 +17,7 @@ fn to_all(request: Request<'_>) -> Request<'_> {
 fn module_0_hears_broadcasts_and_is_silent(rt: HostRuntime) -> Result<(), Fail> {
     let mut bench = Bench::new(rt.alloc(), 4, 0)?;
     bench.ask(set(Parameter::NetworkMode, 0x31), Code::Success)?;
-    bench.out = [0xA5; 2048];
+    bench.out = [0xA5; LEAST_ANSWER_BUFFER];
     let template = scan_of(20, 20, 0);
     bench.ask(to_all(enroll_template(1, &template)), Code::Success)?;
     let enrolled = bench.ask(to_all(get(Parameter::EnrolledFinger)), Code::Success)?;

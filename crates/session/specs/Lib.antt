@@ -1,0 +1,5 @@
+pub mod Driven
+pub mod Made
+pub mod Making
+pub mod Printed
+pub mod Shown

@@ -1,52 +1,72 @@
--- The templates of an ID are taken out, from the youngest place down.
-use Rattle.std.proofs.Common.{◌≡◌, ℕ, ◌+◌, ◌-◌, ◌<◌, cond, eqb, List, [], ◌∷◌, ◌++◌, length, take, drop, Some, None, sym, ap, ◌∙◌, arith}
+-- The templates of an ID are taken out, the oldest first.
+use Rattle.std.proofs.Common.{◌≡◌, ℕ, ◌+◌, ◌-◌, ◌<◌, Bool, true, false, cond, eqb, List, [], ◌∷◌, ◌++◌, length, take}
+use Rattle.std.proofs.Common.{drop, Some, None, sym, refl, ap, ◌∙◌, append-nil, arith}
 use Rattle.memory.specs.Held.{Held, held_at, id_at, none, remove_after}
 use Rattle.machine.specs.Searches.{without}
 use Rattle.std.specs.List.{remove}
-use Rattle.std.proofs.lemmas.List.{append_assoc, drop_more, length-append, length-take-le, take_more}
+use Rattle.std.proofs.lemmas.List.{append_assoc, drop_more, length-append, take_more}
 use Rattle.std.proofs.lemmas.List.Edits.{remove-append_right}
 use Rattle.std.proofs.Math.Seq.{get_or-append_seam}
 use Rattle.std.proofs.lemmas.Bool.{eq-eqb, lt-ltb, ne_eqb}
 
--- from the place on no template of the ID is left, and nothing else was taken out
-abbrev pub Cleared : ℕ → List Held → ℕ → List Held → Type 0
-Cleared id before place now = now ≡ take place before ++ without id (drop place before)
+pub without-append : (id : ℕ) (g h : List Held) → without id (g ++ h) ≡ without id g ++ without id h
+without-append id [] h = refl
+without-append id (e ∷ g) h = at (eqb e.id id) (without-append id g h)
+  where
+    at : (b : Bool) → without id (g ++ h) ≡ without id g ++ without id h
+        → cond b (without id (g ++ h)) (e ∷ without id (g ++ h)) ≡ cond b (without id g) (e ∷ without id g) ++ without id h
+    at true r = r
+    at false r = ap (λ l. e ∷ l) r
 
-module _ (id : ℕ) (before h : List Held) (place : ℕ) (inside : place < length before) (k : Cleared id before (place + 1) h) where
+-- of the first `seen` templates the ID's are gone, the others stand in front of `place`, and nothing else was taken out
+abbrev pub Cleared : ℕ → List Held → ℕ → ℕ → List Held → Type 0
+Cleared id before seen place now =
+    (now ≡ without id (take seen before) ++ drop seen before) × (length (without id (take seen before)) ≡ place)
+
+module _ (id : ℕ) (before h : List Held) (seen place : ℕ) (inside : seen < length before) (k : Cleared id before seen place h) where
   abbrev e : Held
-  e = held_at before place
+  e = held_at before seen
+
+  abbrev front : List Held
+  front = without id (take seen before)
 
   abbrev behind : List Held
-  behind = without id (drop (place + 1) before)
+  behind = drop (seen + 1) before
 
-  split : h ≡ take place before ++ (e ∷ behind)
-  split =
-      k ∙ ap (λ x. x ++ behind) (take_more before place none inside) ∙ append_assoc (take place before) (e ∷ []) behind
+  split : h ≡ front ++ (e ∷ behind)
+  split = k.0 ∙ ap (λ x. front ++ x) (drop_more before seen none inside)
 
-  front : length (take place before) ≡ place
-  front = length-take-le place before (omega arith)
+  more : without id (take (seen + 1) before) ≡ front ++ cond (eqb e.id id) [] (e ∷ [])
+  more = ap (without id) (take_more before seen none inside) ∙ without-append id (take seen before) (e ∷ [])
 
-  rest : without id (drop place before) ≡ cond (eqb e.id id) behind (e ∷ behind)
-  rest = ap (without id) (drop_more before place none inside)
+  length-split : place < length (front ++ (e ∷ behind))
+  length-split = let f = k.1 in rw (length-append front (e ∷ behind)) (omega arith)
 
-  length-split : place < length (take place before ++ (e ∷ behind))
-  length-split = let f = front in rw (length-append (take place before) (e ∷ behind)) (omega arith)
-
-  -- what stands at the place is still the ID that stood there
+  -- what stands at the place is the next one
   pub there : id_at h place ≡ Some e.id
   there =
       rw split
-      (ap (λ b. cond b (Some (held_at (take place before ++ (e ∷ behind)) place).id) None) (lt-ltb place _ length-split)
-      ∙ ap (λ n. Some (held_at (take place before ++ (e ∷ behind)) n).id) (sym front)
-      ∙ ap (λ (x : Held). Some x.id) (get_or-append_seam (take place before) e behind none))
+      (ap (λ b. cond b (Some (held_at (front ++ (e ∷ behind)) place).id) None) (lt-ltb place _ length-split)
+      ∙ ap (λ n. Some (held_at (front ++ (e ∷ behind)) n).id) (sym k.1)
+      ∙ ap (λ (x : Held). Some x.id) (get_or-append_seam front e behind none))
 
-  pub taken : e.id ≡ id → (after : List Held) → after ≡ remove_after h place → Cleared id before place after
+  -- one of the ID's goes
+  pub taken : e.id ≡ id → (after : List Held) → after ≡ remove_after h place → Cleared id before (seen + 1) place after
   taken same after r =
-      r ∙ rw split
-      (ap (λ b. cond b (remove (take place before ++ (e ∷ behind)) place) (take place before ++ (e ∷ behind))) (lt-ltb place _ length-split)
-      ∙ remove-append_right (take place before) (e ∷ behind) place place front (omega arith)
-      ∙ ap (λ n. take place before ++ remove (e ∷ behind) n) (let z : place - place ≡ 0 = omega arith in z)
-      ∙ ap (λ x. take place before ++ x) (sym (rest ∙ ap (λ b. cond b behind (e ∷ behind)) (eq-eqb e.id id same))))
+      let m = more ∙ ap (λ b. front ++ cond b [] (e ∷ [])) (eq-eqb e.id id same) in
+      let f : without id (take (seen + 1) before) ≡ front = m ∙ append-nil front in (
+        r ∙ rw split
+            (ap (λ b. cond b (remove (front ++ (e ∷ behind)) place) (front ++ (e ∷ behind))) (lt-ltb place _ length-split)
+            ∙ remove-append_right front (e ∷ behind) place place k.1 (omega arith)
+            ∙ ap (λ n. front ++ remove (e ∷ behind) n) (let z : place - place ≡ 0 = omega arith in z)
+            ∙ ap (λ x. x ++ behind) (sym f)),
+        ap length f ∙ k.1,
+      )
 
-  pub passed : (e.id ≡ id → ⊥) → Cleared id before place h
-  passed differs = split ∙ ap (λ x. take place before ++ x) (sym (rest ∙ ap (λ b. cond b behind (e ∷ behind)) (ne_eqb e.id id differs)))
+  -- another's stays
+  pub passed : (e.id ≡ id → ⊥) → Cleared id before (seen + 1) (place + 1) h
+  passed differs =
+      let m = more ∙ ap (λ b. front ++ cond b [] (e ∷ [])) (ne_eqb e.id id differs) in (
+        split ∙ sym (append_assoc front (e ∷ []) behind) ∙ ap (λ x. x ++ behind) (sym m),
+        ap length m ∙ length-append front (e ∷ []) ∙ ap (λ n. n + 1) k.1,
+      )

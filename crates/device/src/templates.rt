@@ -17,14 +17,18 @@ fn take_out<S: Memory>(memory: &mut S, place: usize)
     memory.remove(place);
 }
 
-/// Takes all templates of the ID out.
+/// Takes all templates of the ID out, the oldest first.
 pub fn delete_all_of<S: Memory>(memory: &mut S, id: u16)
     ensures after { S.Memory.held memory.new ≡ without id (S.Memory.held memory.old) }
     ensures room_same { S.Memory.room memory.new ≡ S.Memory.room memory.old }
 {
-    for place in (0..memory.count()).rev() {
+    let mut place = 0;
+    // The proof says by `turn` how many templates were looked at.
+    for turn in 0..memory.count() {
         if memory.id_at(place) == Some(id) {
             take_out(memory, place);
+        } else {
+            place += 1;
         }
     }
 }

@@ -2,7 +2,7 @@
 #![tactic(auto)]
 
 ghost use Rattle.std.specs.Prelude.{◌≡◌, ℕ, ◌/◌, ◌<◌, [], ◌∷◌, length, vec_capacity, codes, alloc_error};
-ghost use Rattle.std.specs.Prelude.{IfOk, IfSome, MatchResult, Ok, Err, Some, position, slice_get};
+ghost use Rattle.std.specs.Prelude.{IfOk, MatchResult, Ok, Err, Some, position, slice_get};
 ghost use Rattle.benchline.specs.Lines.{Because, alone, bench_line, blank, bytes_behind, digits_fault, finger};
 ghost use Rattle.benchline.specs.Lines.{finger_of, is_no_digit, line_text, packet, second, seen};
 ghost use Rattle.benchline.specs.declared.fault.IllFormed.TheVariants.{Empty, Misplaced, NoBlank, NoQuality, OddDigits};
@@ -11,7 +11,7 @@ ghost use Rattle.digits.specs.Digits.{hex_text};
 
 mod fault;
 
-use digits::{Fault, digit_value, read_hex_into};
+use digits::{Fault, read_hex_into};
 pub use fault::{IllFormed, Unread};
 use std::fmt;
 
@@ -40,21 +40,12 @@ impl fmt::Debug for Line<'_> {
     }
 }
 
-/// The place of the first character that is no digit.
-fn first_no_digit(digits: &[u8]) -> Option<usize>
-    ensures value { result ≡ position is_no_digit digits.now }
-    ensures within { IfSome result (λ at. at < length digits.now) }
-{
-    digits
-        .iter()
-        .position(|c| digit_value(char::from(*c)).is_none())
-}
-
-/// Why characters behind a letter and a blank are no bytes.
-fn digits_fault(digits: &[u8]) -> IllFormed
+/// Why characters behind a letter and a blank are no bytes, by the place of the first that is no digit.
+fn digits_fault(digits: &[u8], no_digit: Option<usize>) -> IllFormed
+    requires { no_digit ≡ position is_no_digit digits.now }
     ensures { result ≡ digits_fault digits.now }
 {
-    match first_no_digit(digits) {
+    match no_digit {
         Some(at) => IllFormed::Misplaced {
             at: at + 2,
             byte: digits[at],
@@ -64,6 +55,7 @@ fn digits_fault(digits: &[u8]) -> IllFormed
 }
 
 /// The bytes whose digits stand behind one blank, in the buffer.
+#[tactic(auto, using(crate::proofs::Faults::first_no_digit, crate::proofs::Faults::only_digits))]
 fn bytes_behind<'a>(rest: &[u8], buffer: &'a mut Vec<u8>) -> Result<&'a [u8], Unread>
     ensures value { MatchResult result
         (λ bytes. bytes_behind rest.now ≡ Ok bytes.now)
@@ -80,7 +72,8 @@ fn bytes_behind<'a>(rest: &[u8], buffer: &'a mut Vec<u8>) -> Result<&'a [u8], Un
     };
     match read_hex_into(digits, buffer) {
         Ok(()) => Ok(buffer.as_slice()),
-        Err(Fault::NoDigit(_) | Fault::Odd) => Err(Unread::Line(digits_fault(digits))),
+        Err(Fault::NoDigit(at)) => Err(Unread::Line(digits_fault(digits, Some(at)))),
+        Err(Fault::Odd) => Err(Unread::Line(digits_fault(digits, None))),
         Err(Fault::Memory(error)) => Err(Unread::Memory(error)),
     }
 }

@@ -15,10 +15,11 @@ fn run(rt: &HostRuntime) -> Result<(), Stop> {
     let mut session = Session::new(heap, read_making(heap, &words)?)?;
     let mut input = BufReader::new(heap, rt.stdin())?;
     let mut output = BufWriter::new(heap, rt.stdout())?;
-    let Some(complaint) = serve(heap, &mut session, &mut input, &mut output)? else {
-        return Ok(());
-    };
-    Ok(eprintln!(rt; "bench: {complaint}")?)
+    if let Some(complaint) = serve(heap, &mut session, &mut input, &mut output)? {
+        // Each line has its answer: the work is done, also where nobody hears of the ill-formed ones.
+        let _ = eprintln!(rt; "bench: {complaint}");
+    }
+    Ok(())
 }
 
 fn main(rt: HostRuntime) -> ExitCode {

@@ -26,8 +26,22 @@ fn sizes_have_limits(rt: HostRuntime) -> Result<(), Fail> {
         let made = read_making(rt.alloc(), words.as_slice());
         assert_eq!(rt; made.is_ok(), taken, "{option} {value}");
     }
-    let both = ["bench", "--pages", "1", "--rows", "1"];
-    assert!(rt; read_making(rt.alloc(), both.as_slice()).is_err());
+    Ok(())
+}
+
+/// A second memory is no correction of the first.
+#[test]
+fn a_module_has_one_memory(rt: HostRuntime) -> Result<(), Fail> {
+    for [first, second] in [
+        ["--pages", "--rows"],
+        ["--rows", "--pages"],
+        ["--pages", "--pages"],
+        ["--rows", "--rows"],
+    ] {
+        let words = ["bench", first, "1", second, "1"];
+        let made = read_making(rt.alloc(), words.as_slice());
+        assert!(rt; made.is_err(), "{first} and {second}");
+    }
     Ok(())
 }
 

@@ -1,5 +1,17 @@
+ghost use Rattle.std.specs.Prelude.{◌≡◌};
+ghost use Rattle.cli.specs.Lines.{without_end};
+
 use std::io;
 use std::io::{BufRead, BufReader, Read, Write};
+
+/// Takes the line feed off a line, which the last one may lack.
+fn drop_end(line: &mut Vec<u8>)
+    ensures { line.new.items ≡ without_end line.old.items }
+{
+    if line.last() == Some(&b'\n') {
+        line.pop();
+    }
+}
 
 /// Reads the next line of an input in place of what `line` held, without its line end, and says whether there was one;
 /// the last line counts without a line end.
@@ -19,8 +31,6 @@ pub fn next_line<R: Read, W: Write>(
     if input.read_until(b'\n', line)? == 0 {
         return Ok(false);
     }
-    if line.last() == Some(&b'\n') {
-        line.pop();
-    }
+    drop_end(line);
     Ok(true)
 }

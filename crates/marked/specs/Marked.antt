@@ -12,15 +12,18 @@ use Rattle.packet.specs.Marked.{highest_password}
 use Rattle.packet.specs.Numbers.{bytes32}
 use Rattle.packet.specs.Requests.{RequestParts}
 use Rattle.packet.specs.declared.form.Form.TheVariants.{Standard}
+use Rattle.packet.specs.declared.response.Outcome.{Outcome}
 use Rattle.point_matcher.specs.Points.{angles_near}
 use Rattle.row_memory.specs.Rows.{capacity_of}
 use Rattle.search.specs.Ids.{count_of}
 use Rattle.std.specs.List.{flat_map}
 use Rattle.machine.specs.Answers.{Step, answer_data, bytes_of, go, just}
+use Rattle.machine.specs.Enrollment.{enroll_fault}
 use Rattle.machine.specs.Ids.{is_id}
 use Rattle.machine.specs.Machine.{on_event, requested}
 use Rattle.machine.specs.Machine.Event.{packet}
-use Rattle.machine.specs.Requests.{wait_for}
+use Rattle.machine.specs.Requests.{list, wait_for}
+use Rattle.machine.specs.Settings.{templates_in}
 use Rattle.machine.specs.State.{State}
 use Rattle.machine.specs.State.Phase.{first_finger}
 use Rattle.machine.specs.declared.enrollment.Enroller.TheVariants.{Host}
@@ -63,6 +66,9 @@ pub record Enrolls (s : State) (mode : EnrollMode) (id many : ℕ) : Type 0 wher
 abbrev pub awaits_finger : State → ℕ → Step
 awaits_finger s id = wait_for s (adds id) (first_finger (record { id = id; flag = AddNew; by = Host }))
 
+abbrev pub outcomes_of : Step → List Outcome
+outcomes_of x = map (λ y. y.outcome) x.said
+
 -- the checksum of ES for the ID 0x9929, and of LT answering three IDs; the IDs in a last block; the templates that
 -- leave room for two more
 pub record MarkedCases (enroll_sum list_sum last_block room_for_two : ℕ) : Type 0 where
@@ -85,6 +91,19 @@ pub record MarkedCases (enroll_sum list_sum last_block room_for_two : ℕ) : Typ
       → requested s (adds id) ≡ just s (adds id) FingerLimit
   pub one_more : (s : State) (id : ℕ) → Enrolls s Once id (room_for_two + 1) → 1 ≤ s.room - length s.held
       → requested s (adds id) ≡ awaits_finger s id
+  -- whatever the module awaits, and in whatever mode: what LT makes of a block, and what stands in an enrolment's way
+  pub block_nine_listed : (s : State) → length s.held ≡ 490
+      → outcomes_of (list s (asks_block 9))
+      ≡ (record { command = Known ListTemplates; param = last_block; size = 4 * last_block; code = Success }) ∷ []
+  pub block_ten_past : (s : State) → length s.held ≡ 490
+      → outcomes_of (list s (asks_block 10))
+      ≡ (record { command = Known ListTemplates; param = 0; size = 0; code = InvalidId }) ∷ []
+  pub two_pass : (s : State) (id : ℕ) → count_of id s.held ≡ room_for_two → 2 ≤ s.room - length s.held
+      → enroll_fault s AddNew id (templates_in TwoTemplates) ≡ None
+  pub two_limited : (s : State) (id : ℕ) → count_of id s.held ≡ room_for_two + 1
+      → enroll_fault s AddNew id (templates_in TwoTemplates) ≡ Some FingerLimit
+  pub one_passes : (s : State) (id : ℕ) → count_of id s.held ≡ room_for_two + 1 → 1 ≤ s.room - length s.held
+      → enroll_fault s AddNew id (templates_in Once) ≡ None
   pub angles : (angles_near 250 2 ≡ true) × (angles_near 250 3 ≡ false)
   pub one_row : (bytes : List ℕ) → length bytes ≡ 386 → capacity_of bytes ≡ 1
   pub no_row : (bytes : List ℕ) → length bytes ≡ 385 → capacity_of bytes ≡ 0

@@ -1,5 +1,5 @@
 use Rattle.std.proofs.Common.{◌-◌, ◌/◌, min, length, refl, ap, ◌∙◌, arith}
-use Rattle.marked.proofs.Cases.{last-ids, last-length}
+use Rattle.marked.proofs.Cases.{block_nine, block_ten, last-ids, last-length, limited, passes}
 use Rattle.std.proofs.lemmas.Bool.{le-leb, lt-leb, le-ltb}
 use Rattle.std.proofs.lemmas.List.{length-map}
 use Rattle.marked.proofs.marked_cases.Goals as goal
@@ -20,6 +20,11 @@ returns c = record {
   two_too_many = λ s id at. rw (at.idle.unlocked, at.idle.waits, at.some_id, at.mode_there, at.many_there);
   one_more = λ s id at room.
       rw (at.idle.unlocked, at.idle.waits, at.some_id, at.mode_there, at.many_there, le-ltb (s.room - length s.held) 1 room);
+  block_nine_listed = block_nine;
+  block_ten_past = block_ten;
+  two_pass = λ s id e room. passes s id 2 (omega arith) room;
+  two_limited = λ s id e. limited s id 2 (omega arith);
+  one_passes = λ s id e room. passes s id 1 (omega arith) room;
   angles = (refl, refl);
   one_row = λ bytes e. ap (λ n. min 500 (n / 386)) e;
   no_row = λ bytes e. ap (λ n. min 500 (n / 386)) e;
